@@ -1,0 +1,123 @@
+-- Laws of the questions about the numbers below n that pass a test.
+use mathlib.Core.Bool.{Bool, true, false, cond, not, _&&_, _||_}
+use mathlib.Core.Path.{_≡_, refl, ap, sym, _∙_, fun-ext}
+use mathlib.Core.Logic.{_⊎_, inl, inr, ⊎-elim}
+use Prim.Native.Nat.{ℕ, zero, suc, _+_, _-_, _≤_, _<_, max}
+use native.Mathlib.Nat.{eq-or-lt-of-le, add-zero, add-suc}
+use native.Mathlib.Omega.{arith}
+use Rattle.base.specs.Range.{some, howMany, least, fold, greatest}
+use Rattle.base.proofs.BoolLaws.{true-or-false, not-both, otherwise, lt-or-le, or-no-left, or-no-right, or-right, or-cases}
+
+-- ---- some
+
+-- none passes: each fails
+pub none-passes : (p : ℕ → Bool) (n : ℕ) → some p n ≡ false → (i : ℕ) → i < n → p i ≡ false
+unfolding some
+none-passes p zero h i q = absurd (omega arith)
+none-passes p (suc n) h i q =
+    ⊎-elim
+    (λ (e : i ≡ n). rw e (or-no-right (some p n) (p n) h))
+    (λ (l : i < n). none-passes p n (or-no-left (some p n) (p n) h) i l)
+    (eq-or-lt-of-le (omega arith))
+
+pub some-passes : (p : ℕ → Bool) (n i : ℕ) → i < n → p i ≡ true → some p n ≡ true
+some-passes p n i q h = ⊎-elim (λ (e : some p n ≡ true). e) (λ (e : some p n ≡ false). absurd (not-both h (none-passes p n e i q))) (true-or-false (some p n))
+
+pub all-fail : (p : ℕ → Bool) (n : ℕ) → ((i : ℕ) → i < n → p i ≡ false) → some p n ≡ false
+unfolding some
+all-fail p zero h = refl
+all-fail p (suc n) h = rw (all-fail p n (λ i q. h i (omega arith)), h n (omega arith))
+
+-- the one that passes
+pub which-passes : (p : ℕ → Bool) (n : ℕ) → some p n ≡ true → (i : ℕ) × (i < n) × (p i ≡ true)
+unfolding some
+which-passes p zero h = absurd (not-both h refl)
+which-passes p (suc n) h =
+    ⊎-elim
+    (λ (e : some p n ≡ true). let (i, q, t) = which-passes p n e in (i, omega arith, t))
+    (λ (e : p n ≡ true). (n, omega arith, e))
+    (or-cases (some p n) (p n) h)
+
+-- ---- the same test, the same answers
+
+pub some-cong : (p q : ℕ → Bool) (n : ℕ) → ((i : ℕ) → i < n → p i ≡ q i) → some p n ≡ some q n
+unfolding some
+some-cong p q zero h = refl
+some-cong p q (suc n) h = rw (some-cong p q n (λ i l. h i (omega arith)), h n (omega arith))
+
+pub fold-cong : {A : Type 0} (step : A → ℕ → A) (z : A) (p q : ℕ → Bool) (n : ℕ) → ((i : ℕ) → i < n → p i ≡ q i) → fold step z p n ≡ fold step z q n
+unfolding fold
+fold-cong step z p q zero h = refl
+fold-cong step z p q (suc n) h = rw (fold-cong step z p q n (λ i l. h i (omega arith)), h n (omega arith))
+
+-- ---- none from p to q - 1 passes: what is asked up to q is what is asked up to p
+
+module _ {A : Type 0} (step : A → ℕ → A) (z : A) (p : ℕ → Bool) where
+  fold-by : (k d : ℕ) → ((j : ℕ) → k ≤ j → j < k + d → p j ≡ false) → fold step z p (k + d) ≡ fold step z p k
+  unfolding fold
+  fold-by k zero h = rw add-zero refl
+  fold-by k (suc d) h = rw (add-suc k d, h (k + d) (omega arith) (omega arith)) (fold-by k d (λ j a b. h j a (omega arith)))
+
+  pub fold-skip : (k q : ℕ) → k ≤ q → ((j : ℕ) → k ≤ j → j < q → p j ≡ false) → fold step z p q ≡ fold step z p k
+  fold-skip k q l h =
+      let e : k + (q - k) ≡ q = omega arith in
+      rw e at (fold-by k (q - k) (λ j a b. h j a (omega arith)))
+
+  pub fold-take : (n : ℕ) → p n ≡ true → fold step z p (suc n) ≡ step (fold step z p n) n
+  unfolding fold
+  fold-take n h = rw h
+
+-- ---- greatest
+
+pub greatest-above : (p : ℕ → Bool) (f : ℕ → ℕ) (n i : ℕ) → i < n → p i ≡ true → f i ≤ greatest p f n
+unfolding fold
+greatest-above p f zero i h t = absurd (omega arith)
+greatest-above p f (suc n) i h t =
+    ⊎-elim
+    (λ (e : i ≡ n). let u : p n ≡ true = rw e at t in rw (u, e) (omega arith))
+    (λ (l : i < n). go (p n) (greatest-above p f n i l t))
+    (eq-or-lt-of-le (omega arith))
+  where
+    go : (b : Bool) → f i ≤ greatest p f n → f i ≤ cond b (max (greatest p f n) (f n)) (greatest p f n)
+    go true q = omega arith
+    go false q = q
+
+pub greatest-under : (p : ℕ → Bool) (f : ℕ → ℕ) (n m : ℕ) → ((i : ℕ) → i < n → p i ≡ true → f i ≤ m) → greatest p f n ≤ m
+unfolding fold
+greatest-under p f zero m h = omega arith
+greatest-under p f (suc n) m h =
+    ⊎-elim
+    (λ (e : p n ≡ true). rw e (omega (arith, greatest-under p f n m (λ i l. h i (omega arith)), h n (omega arith) e)))
+    (λ (e : p n ≡ false). rw e (greatest-under p f n m (λ i l. h i (omega arith))))
+    (true-or-false (p n))
+
+-- ---- least
+
+-- what settles the least: it passes or is n, and nothing lower passes
+pub least-is : (p : ℕ → Bool) (n r : ℕ) → r ≤ n → (r < n → p r ≡ true) → ((j : ℕ) → j < r → p j ≡ false) → r ≡ least p n
+unfolding least
+least-is p zero r h t f = omega arith
+least-is p (suc n) r h t f =
+    go (λ l. least-is p n r l (λ k. t (omega arith)) f) (true-or-false (some p n)) (true-or-false (p n))
+  where
+    go : (r ≤ n → r ≡ least p n) → (some p n ≡ true) ⊎ (some p n ≡ false) → (p n ≡ true) ⊎ (p n ≡ false)
+        → r ≡ cond (some p n) (least p n) (cond (p n) n (suc n))
+    go ih (inl e) c =
+        let (i, q, u) = which-passes p n e in
+        ⊎-elim (λ (k : i < r). absurd (not-both u (f i k))) (λ (k : r ≤ i). rw e (ih (omega arith))) (lt-or-le i r)
+    go ih (inr e) (inl u) =
+        ⊎-elim
+        (λ (k : n < r). absurd (not-both u (f n k)))
+        (λ (k : r ≤ n). ⊎-elim
+            (λ (l : r < n). absurd (not-both (t (omega arith)) (none-passes p n e r l)))
+            (λ (l : n ≤ r). rw (e, u) (omega arith))
+            (lt-or-le r n))
+        (lt-or-le n r)
+    go ih (inr e) (inr u) =
+        ⊎-elim
+        (λ (k : n < r). rw (e, u) (omega arith))
+        (λ (k : r ≤ n). absurd (not-both (t (omega arith)) (⊎-elim
+            (λ (l : r < n). none-passes p n e r l)
+            (λ (l : n ≤ r). let q : r ≡ n = omega arith in rw q u)
+            (lt-or-le r n))))
+        (lt-or-le n r)

@@ -1,0 +1,4 @@
+pub mod Number
+pub mod Range
+pub mod Set
+pub mod Table

@@ -1,0 +1,16 @@
+use borrow.Author.Tests.{lt-ltb, le-ltb}
+use borrow.Author.Needs.{needs}
+use native.Mathlib.Omega.{arith}
+use Rattle.job.proofs.Frame.new.Statement.{statement}
+use Rattle.job.proofs.Frame.new.Tie as tie
+use Rattle.job.proofs.Frame.new.Reads as reads
+use Rattle.job.proofs.Frame.new.Lts as lts
+
+returns : tie.Need-returns
+returns c = simp (lt-ltb _ _ (c .if1 .taken))
+
+returns-2 : tie.Need-returns-2
+returns-2 c = simp (le-ltb _ _ (c .if1 .left))
+
+pub new-spec : {M : Type 1} → statement M
+new-spec = tie.close (tie.spec returns returns-2)

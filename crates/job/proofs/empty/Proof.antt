@@ -1,0 +1,15 @@
+use mathlib.Core.Path.{refl}
+use Rattle.base.specs.Table.{tab}
+use borrow.Author.Needs.{needs}
+use native.Mathlib.Omega.{arith}
+use Rattle.job.proofs.empty.Statement.{statement}
+use Rattle.job.proofs.empty.Tie as tie
+use Rattle.job.proofs.empty.Reads as reads
+use Rattle.job.proofs.empty.Lts as lts
+
+returns : tie.Need-returns
+unfolding tab
+returns c = refl
+
+pub empty-spec : {M : Type 1} → statement M
+empty-spec = tie.close (tie.spec returns)

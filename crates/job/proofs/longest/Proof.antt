@@ -1,0 +1,71 @@
+use Rattle.base.specs.Set.{has, wordBits}
+use Rattle.base.specs.Range.{least}
+use Prim.Native.Nat.{_<_}
+use Rattle.base.proofs.SetLaws.{Walked, walk-start, walk-next, walk-done, least-lt}
+use lib.ListN.{getD}
+use Prim.Native.Nat.{max}
+use borrow.Author.Needs.{needs}
+use native.Mathlib.Omega.{arith}
+use Rattle.job.proofs.longest.Statement.{statement}
+use Rattle.job.proofs.longest.Tie as tie
+use Rattle.job.proofs.longest.Reads as reads
+use Rattle.job.proofs.longest.Lts as lts
+use Rattle.base.proofs.lowest.Reads as lowest-reads
+use Rattle.base.proofs.without_lowest.Reads as without-lowest-reads
+use Rattle.job.proofs.greater.Reads as greater-reads
+
+abbrev Inv-loop : tie.InvT-loop
+Inv-loop set delay acc₀ rest₀ acc rest = Walked (λ g i. max g (getD delay i 0)) 0 set rest acc
+
+abbrev μ-loop : tie.MeasureT-loop
+μ-loop set delay acc₀ rest₀ acc rest = rest
+
+loop-holds : tie.Need-loop-holds Inv-loop μ-loop
+loop-holds c = walk-start _ _ _ (omega arith)
+
+low : (c : tie.In-loop Inv-loop μ-loop) → least (has (c .before .loop .rest)) wordBits < wordBits
+low c = least-lt (c .before .loop .rest) (c .before .loop .inv .fits) (omega arith)
+
+lowest-requires : tie.Need-lowest-requires Inv-loop μ-loop
+lowest-requires c κs = search needs
+
+mul-greater : tie.Need-mul-greater Inv-loop μ-loop
+mul-greater c = omega (arith, low (c .before), c .lowest .ensures)
+
+element-copy-out-greater : tie.Need-element-copy-out-greater Inv-loop μ-loop
+element-copy-out-greater c = omega (arith, low (c .before), c .lowest .ensures)
+
+greater-requires : tie.Need-greater-requires Inv-loop μ-loop
+greater-requires c κs = search needs
+
+without-lowest-requires : tie.Need-without-lowest-requires Inv-loop μ-loop
+without-lowest-requires c κs = search needs
+
+loop-less : tie.Need-loop-less Inv-loop μ-loop
+loop-less c = omega (arith, c .without-lowest .ensures .1)
+
+loop-again : tie.Need-loop-again Inv-loop μ-loop
+loop-again c =
+    let b = c .before .before .before .before in
+    let s = b .before .loop in
+    rw (c .before .greater .ensures, c .before .before .before .lowest .ensures)
+    (walk-next _ _ _ (s .rest) (c .without-lowest .result) (s .acc) (s .inv) (omega arith) (c .without-lowest .ensures .1) (c .without-lowest .ensures .0))
+
+returns : tie.Need-returns Inv-loop μ-loop
+returns c = walk-done _ _ _ _ (rw (c .loop-test .left) at (c .before .loop .inv))
+
+pub longest-spec : {M : Type 1} → statement M
+longest-spec =
+    tie.close
+    (tie.spec
+    Inv-loop
+    μ-loop
+    loop-holds
+    lowest-requires
+    mul-greater
+    element-copy-out-greater
+    greater-requires
+    without-lowest-requires
+    loop-less
+    loop-again
+    returns)

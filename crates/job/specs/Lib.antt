@@ -1,0 +1,5 @@
+pub mod Limits
+pub mod Tree
+pub mod Bytes
+pub mod Refusal
+pub mod Read

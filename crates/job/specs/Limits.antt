@@ -1,0 +1,32 @@
+-- The bounds of document 01, each once. In src/ each is an associated constant of the type that it bounds; `Limits::all` ties the two.
+use Prim.Native.Nat.{ℕ}
+
+-- node count n
+abbrev pub fewestNodes : ℕ
+fewestNodes = 2
+
+abbrev pub mostNodes : ℕ
+mostNodes = 64
+
+-- frame count M
+abbrev pub fewestFrames : ℕ
+fewestFrames = 1
+
+abbrev pub mostFrames : ℕ
+mostFrames = 65536
+
+-- start delay of a leaf, in slots
+abbrev pub longestDelay : ℕ
+longestDelay = 4096
+
+-- memory of a node, in bytes
+abbrev pub greatestMemory : ℕ
+greatestMemory = 1099511627775
+
+-- rate of a link, in bytes a slot: document 01 gives memory and rate one bound
+abbrev pub greatestRate : ℕ
+greatestRate = greatestMemory
+
+-- size of a frame, in bytes
+abbrev pub greatestFrame : ℕ
+greatestFrame = 16777215

@@ -1,3 +1,5 @@
+pub mod NodeLaws
 pub mod ReadLaws
+pub mod RefusalLaws
 pub mod SlotLaws
 pub mod TreeLaws

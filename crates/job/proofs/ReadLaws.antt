@@ -2,7 +2,7 @@
 use mathlib.Core.List.{List}
 use mathlib.Core.Path.{_≡_, refl, ap, sym, _∙_, fun-ext}
 use mathlib.Core.Logic.{_⊎_, inl, inr, ⊎-elim}
-use Prim.Native.Nat.{ℕ, zero, suc, _+_, _≤_, _<_}
+use Prim.Native.Nat.{ℕ, zero, suc, _+_, _*_, _≤_, _<_}
 use native.Mathlib.Omega.{arith}
 use lib.ListN.{length, getD, set, replicate, length-set}
 use lib.Seq.{ext-getD, getD-set-same, getD-set-other}
@@ -11,8 +11,8 @@ use Rattle.base.proofs.BoolLaws.{lt-or-le}
 use Rattle.base.proofs.TableLaws.{length-tab, getD-tab, getD-tab-past, tab-cong}
 use Rattle.job.specs.Limits.{mostNodes}
 use Rattle.job.specs.Tree.{Tree, link}
-use Rattle.job.specs.Bytes.{perNode}
-use Rattle.job.specs.Read.{structOf, treeIn}
+use Rattle.job.specs.Bytes.{recordWidth, frameWidth, recordPlace, framesPlace, nodeCount, frameCount, wantedLength, perNode}
+use Rattle.job.specs.Read.{Sized, structOf, treeIn}
 use Rattle.job.proofs.TreeLaws.{link-is, link-past}
 
 -- ---- a field of the nodes 1 to n-1
@@ -98,3 +98,14 @@ struct-holds t frames h =
 pub zeros-are : tab (λ i. 0) mostNodes ≡ replicate mostNodes 0
 unfolding tab
 zeros-are = refl
+
+-- ---- places
+
+-- each record lies within the bytes, and so does each frame
+pub record-in : (s : List ℕ) → Sized s → (i : ℕ) → 0 < i → i < nodeCount s → recordPlace i + recordWidth ≤ length s
+unfolding wantedLength
+record-in s z i h k = omega (arith, z .long)
+
+pub frame-in : (s : List ℕ) → Sized s → (m : ℕ) → m < frameCount s → framesPlace s + frameWidth * m + frameWidth ≤ length s
+unfolding wantedLength
+frame-in s z m h = omega (arith, z .long)

@@ -1,13 +1,15 @@
 -- What the code's types hold, in terms of the definitions: a job's struct, and what each constructor and the reader give.
 use mathlib.Core.Bool.{Bool, cond, not}
 use mathlib.Core.List.{List}
-use Prim.Native.Nat.{ℕ, min}
+use mathlib.Core.Path.{_≡_}
+use Prim.Native.Nat.{ℕ, _≤_, min}
 use lib.Dec.{eqb, ltb}
 use lib.ListN.{length, getD}
+use Rattle.base.specs.Range.{some}
 use Rattle.base.specs.Table.{tab}
 use Rattle.job.specs.Limits.{fewestNodes, mostNodes, fewestFrames, mostFrames}
 use Rattle.job.specs.Tree.{Tree, JobData, leaf}
-use Rattle.job.specs.Bytes.{mark, version, markRLY, versionOne, headerWidth, nodeCount, frameCount, parentAt, delayAt, memoryAt, rateAt, perNode, treeOf}
+use Rattle.job.specs.Bytes.{mark, version, markRLY, versionOne, headerWidth, nodeCount, frameCount, parentAt, delayAt, memoryAt, rateAt, frameAt, wantedLength, perNode, treeOf}
 use Rattle.job.specs.Refusal.{outside, parentWrong, delayWrong, amountWrong, frameWrong, someNode, refusal}
 use Rattle.job.specs.declared.Frame.{Frame}
 use Rattle.job.specs.declared.FrameMade.{FrameMade}
@@ -69,6 +71,14 @@ nodeAt s i = record { parent = parentAt s i; delay = delayAt s i; memory = memor
 abbrev pub readOf : List ℕ → Reading
 readOf s = refusedOr (refusal s) (structOf (treeOf s) (frameCount s))
 
+-- the first refusal where there is one, else the second
+abbrev pub orElse : ℕ → ℕ → ℕ
+orElse a b = cond (eqb a 0) b a
+
+-- the earlier of two rows of the table, where 0 stands for none
+abbrev pub sooner : ℕ → ℕ → ℕ
+sooner a b = cond (eqb a 0) b (cond (eqb b 0) a (min a b))
+
 -- Rows of the table that one function tests: the first three, those on the counts, those on one node, those on all nodes.
 abbrev pub headRefusal : List ℕ → ℕ
 headRefusal s =
@@ -94,6 +104,17 @@ nodesRefusal t =
     (cond (someNode t (λ i. amountWrong (t .memory i) (t .rate i))) 9
     0))
 
+abbrev pub restRefusal : List ℕ → ℕ
+restRefusal s = orElse (nodesRefusal (treeOf s)) (cond (some (λ m. frameWrong (frameAt s m)) (frameCount s)) 10 0)
+
+-- what rows 1 to 6 leave: counts within their bounds, and the length that they ask for
+pub record Sized (s : List ℕ) : Type 0 where
+  pub nodes-from : fewestNodes ≤ nodeCount s
+  pub nodes-to : nodeCount s ≤ mostNodes
+  pub frames-from : fewestFrames ≤ frameCount s
+  pub frames-to : frameCount s ≤ mostFrames
+  pub long : length s ≡ wantedLength s
+
 -- what the constructors give: a job of these counts with empty records, a node, a frame
 abbrev pub newJob : ℕ → ℕ → Reading
 newJob n M = refusedOr (sizeRefusal n M) (structOf (bareTree n) M)
@@ -103,7 +124,3 @@ newNode i isLeaf node = cond (eqb (nodeRefusal i isLeaf node) 0) (node-made.Made
 
 abbrev pub newFrame : ℕ → FrameMade
 newFrame size = cond (frameWrong size) frame-made.TooLarge (frame-made.Made (record { size = size }))
-
--- the earlier of two rows of the table, where 0 stands for none
-abbrev pub sooner : ℕ → ℕ → ℕ
-sooner a b = cond (eqb a 0) b (cond (eqb b 0) a (min a b))

@@ -5,14 +5,14 @@ ghost use mathlib.Core.Path.{_≡_};
 ghost use Prim.Native.Nat.{ℕ, _+_, _-_, _*_, _≤_, _<_, max};
 ghost use lib.Dec.{eqb, ltb};
 ghost use lib.ListN.{length, getD};
-ghost use Rattle.base.specs.Range.{greatest};
+ghost use Rattle.base.specs.Range.{some, greatest};
 ghost use Rattle.base.specs.Set.{has, wordBits};
 ghost use Rattle.job.specs.Limits.{fewestNodes, mostNodes, mostFrames};
-ghost use Rattle.job.specs.Tree as job;
+ghost use Rattle.job.specs.Tree as tree;
 ghost use Rattle.job.specs.Tree.{hasChild, child, leaf, below, planLength, TreeWithin};
-ghost use Rattle.job.specs.Bytes.{recordPlace};
-ghost use Rattle.job.specs.Refusal.{delayWrong};
-ghost use Rattle.job.specs.Read.{newFrame, newNode, newJob, refusedWith, structOf, bareTree, treeIn, jobIn, headRefusal};
+ghost use Rattle.job.specs.Bytes.{recordPlace, nodeCount, frameCount, frameAt, treeOf};
+ghost use Rattle.job.specs.Refusal.{delayWrong, frameWrong};
+ghost use Rattle.job.specs.Read.{newFrame, newNode, newJob, refusedWith, structOf, bareTree, treeIn, jobIn, nodeAt, parentsOf, refusedOr, headRefusal, nodesRefusal, restRefusal, readOf, sooner, Sized};
 
 // A frame's size in bytes.
 pub struct Frame {
@@ -242,7 +242,7 @@ impl Job {
     // H, the last slot.
     pub fn last_slot(self) -> usize
         requires { ⌜ TreeWithin (treeIn self) × (self .frames ≤ mostFrames) ⌝ }
-        ensures { λ r. ⌜ ((frame : ℕ → ℕ) → r ≡ job.H (jobIn self frame)) ⌝ }
+        ensures { λ r. ⌜ ((frame : ℕ → ℕ) → r ≡ tree.H (jobIn self frame)) ⌝ }
     {
         self.frames + longest(self.leaves(), &self.delay)
     }
@@ -307,4 +307,142 @@ fn head_refusal(s: &[u8]) -> u64
         return 3;
     }
     0
+}
+
+// The job with the parents of its records; the rest of them is still empty.
+fn read_parents(s: &[u8], job: Job) -> Job
+    requires { ⌜ Sized (now s) × (job ≡ structOf (bareTree (nodeCount (now s))) (frameCount (now s))) ⌝ }
+    ensures { λ r. ⌜ r ≡ structOf (parentsOf (now (s .entry))) (frameCount (now (s .entry))) ⌝ }
+{
+    let nodes = job.nodes;
+    let mut out = job;
+    let mut i = 1;
+    while i < nodes {
+        let at = record_place(i);
+        let parent = base::number_at(s, at, 1);
+        out.parent[i] = parent as usize;
+        i += 1;
+    }
+    out
+}
+
+// Node i as its record has it, made or refused.
+fn read_node(s: &[u8], i: usize, leaf: bool) -> NodeMade
+    requires { ⌜ Sized (now s) × ((0 < i) × (i < nodeCount (now s))) ⌝ }
+    ensures { λ r. ⌜ r ≡ newNode i leaf (nodeAt (now (s .entry)) i) ⌝ }
+{
+    let at = record_place(i);
+    let parent = base::number_at(s, at, 1);
+    let delay = base::number_at(s, at + 1, 2);
+    let memory = base::number_at(s, at + 3, 8);
+    let rate = base::number_at(s, at + 11, 8);
+    Node::new(
+        i,
+        leaf,
+        Node {
+            parent: parent as usize,
+            delay: delay as usize,
+            memory,
+            rate,
+        },
+    )
+}
+
+// The earlier of two rows of the table of refusals, where 0 stands for none.
+fn earlier(a: u64, b: u64) -> u64
+    ensures { λ r. ⌜ r ≡ sooner a b ⌝ }
+{
+    if a == 0 {
+        return b;
+    }
+    if b == 0 {
+        return a;
+    }
+    if a < b { a } else { b }
+}
+
+// The job with its records, or the first of rows 7 to 9, whichever node it is at.
+fn read_nodes(s: &[u8], job: Job, inner: u64) -> Reading
+    requires { ⌜ Sized (now s) × ((job ≡ structOf (bareTree (nodeCount (now s))) (frameCount (now s))) × ((k : ℕ) → has inner k ≡ (hasChild (treeOf (now s)) k && ltb k wordBits))) ⌝ }
+    ensures { λ r. ⌜ r ≡ refusedOr (nodesRefusal (treeOf (now (s .entry)))) (structOf (treeOf (now (s .entry))) (frameCount (now (s .entry)))) ⌝ }
+{
+    let nodes = job.nodes;
+    let mut out = job;
+    let mut refusal: u64 = 0;
+    let mut i = 1;
+    while i < nodes {
+        match read_node(s, i, !base::member(inner, i)) {
+            NodeMade::Made(node) => {
+                out.parent[i] = node.parent;
+                out.delay[i] = node.delay;
+                out.memory[i] = node.memory;
+                out.rate[i] = node.rate;
+            }
+            NodeMade::Refused(row) => {
+                refusal = earlier(refusal, row);
+            }
+        }
+        i += 1;
+    }
+    if refusal != 0 {
+        return refused(refusal);
+    }
+    Reading { refusal: 0, job: out }
+}
+
+// Whether some frame is too large.
+fn some_frame_wrong(s: &[u8], nodes: usize, frames: usize) -> bool
+    requires { ⌜ Sized (now s) × ((nodes ≡ nodeCount (now s)) × (frames ≡ frameCount (now s))) ⌝ }
+    ensures { λ r. ⌜ r ≡ some (λ m. frameWrong (frameAt (now (s .entry)) m)) (frameCount (now (s .entry))) ⌝ }
+{
+    let mut at = record_place(nodes);
+    let mut m = 0;
+    while m < frames {
+        match Frame::new(base::number4_at(s, at)) {
+            FrameMade::TooLarge => {
+                return true;
+            }
+            FrameMade::Made(_) => {}
+        }
+        at += Frame::WIDTH;
+        m += 1;
+    }
+    false
+}
+
+// Rows 7 to 10, of a job whose counts and length are right.
+fn read_rest(s: &[u8], job: Job) -> Reading
+    requires { ⌜ Sized (now s) × (job ≡ structOf (bareTree (nodeCount (now s))) (frameCount (now s))) ⌝ }
+    ensures { λ r. ⌜ r ≡ refusedOr (restRefusal (now (s .entry))) (structOf (treeOf (now (s .entry))) (frameCount (now (s .entry)))) ⌝ }
+{
+    let inner = read_parents(s, job).inner_nodes();
+    let read = read_nodes(s, job, inner);
+    if read.refusal != 0 {
+        return read;
+    }
+    if some_frame_wrong(s, job.nodes, job.frames) {
+        return refused(10);
+    }
+    read
+}
+
+// The job that any bytes say, or their refusal.
+pub fn read(s: &[u8]) -> Reading
+    ensures { λ r. ⌜ r ≡ readOf (now (s .entry)) ⌝ }
+{
+    let head = head_refusal(s);
+    if head != 0 {
+        return refused(head);
+    }
+    let nodes = base::number_at(s, 5, 1);
+    let frames = base::number_at(s, 6, 4);
+    let sized = Job::new(nodes as usize, frames as usize);
+    if sized.refusal != 0 {
+        return sized;
+    }
+    let job = sized.job;
+    if s.len() != record_place(job.nodes) + Frame::WIDTH * job.frames {
+        return refused(6);
+    }
+    read_rest(s, job)
 }

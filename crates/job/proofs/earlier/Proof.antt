@@ -1,0 +1,22 @@
+use borrow.Author.Tests.{lt-ltb, le-ltb, eq-eqb, ne-eqb}
+use borrow.Author.Needs.{needs}
+use native.Mathlib.Omega.{arith}
+use Rattle.job.proofs.earlier.Statement.{statement}
+use Rattle.job.proofs.earlier.Tie as tie
+use Rattle.job.proofs.earlier.Reads as reads
+use Rattle.job.proofs.earlier.Lts as lts
+
+returns : tie.Need-returns
+returns c = simp (eq-eqb _ _ (c .if1 .taken))
+
+returns-2 : tie.Need-returns-2
+returns-2 c = simp (ne-eqb _ _ (c .before .if1 .left), eq-eqb _ _ (c .if2 .taken))
+
+returns-3 : tie.Need-returns-3
+returns-3 c = simp (ne-eqb _ _ (c .before .before .if1 .left), ne-eqb _ _ (c .before .if2 .left)) (omega arith)
+
+returns-4 : tie.Need-returns-4
+returns-4 c = simp (ne-eqb _ _ (c .before .before .if1 .left), ne-eqb _ _ (c .before .if2 .left)) (omega arith)
+
+pub earlier-spec : {M : Type 1} → statement M
+earlier-spec = tie.close (tie.spec returns returns-2 returns-3 returns-4)

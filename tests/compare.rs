@@ -1,0 +1,168 @@
+//! One byte string held against the library and the independent reader.
+
+use std::collections::HashSet;
+use std::fmt;
+use std::hash::{DefaultHasher, Hash, Hasher};
+
+use crate::job::MOST_NODES;
+use crate::{library, reader};
+
+/// The numbers of a job's bytes: 0, and the refusals 1 to 10.
+const NUMBERS: usize = 11;
+
+/// Least number of guard bytes on each side of the string.
+const GUARD: usize = 32;
+
+/// What the guard bytes hold in the first call and in the second: an answer that
+/// depends on them shows a read outside the string.
+const FILLS: [u8; 2] = [0x00, 0xA5];
+
+/// Most bytes of a string that are printed.
+const HEX_BYTES: usize = 4_096;
+
+/// A byte string, with its number where the generator knows it.
+pub struct Case {
+    bytes: Vec<u8>,
+    expected: Option<u64>,
+}
+
+impl Case {
+    pub fn known(bytes: Vec<u8>, expected: u64) -> Self {
+        Case {
+            bytes,
+            expected: Some(expected),
+        }
+    }
+
+    pub fn unknown(bytes: Vec<u8>) -> Self {
+        Case {
+            bytes,
+            expected: None,
+        }
+    }
+}
+
+/// What went wrong, and on which bytes.
+pub struct Mismatch {
+    what: &'static str,
+    expected: u64,
+    got: u64,
+    bytes: Vec<u8>,
+}
+
+impl fmt::Display for Mismatch {
+    fn fmt(&self, f: &mut fmt::Formatter) -> fmt::Result {
+        writeln!(
+            f,
+            "{}: expected {}, got {}",
+            self.what, self.expected, self.got
+        )?;
+        let shown = self.bytes.len().min(HEX_BYTES);
+        if shown < self.bytes.len() {
+            writeln!(f, "{} bytes, of which the first {shown}:", self.bytes.len())?;
+        } else {
+            writeln!(f, "{shown} bytes:")?;
+        }
+        self.bytes[..shown]
+            .iter()
+            .try_for_each(|byte| write!(f, "{byte:02x}"))
+    }
+}
+
+/// What has been compared so far.
+pub struct Tally {
+    pub strings: u64,
+    pub total_bytes: u64,
+    /// Strings met for each number.
+    pub numbers: [u64; NUMBERS],
+    /// Accepted strings met for each node count.
+    pub node_counts: [u64; MOST_NODES + 1],
+    /// Answers of the independent reader held against the generator.
+    pub known: u64,
+    seen: HashSet<u64>,
+    buffer: Vec<u8>,
+}
+
+impl Tally {
+    pub fn new() -> Self {
+        Tally {
+            strings: 0,
+            total_bytes: 0,
+            numbers: [0; NUMBERS],
+            node_counts: [0; MOST_NODES + 1],
+            known: 0,
+            seen: HashSet::new(),
+            buffer: Vec::new(),
+        }
+    }
+
+    /// Compares one string. False where it was met before: it is then left out.
+    pub fn compare(&mut self, case: Case) -> Result<bool, Mismatch> {
+        if !self.seen.insert(hash(&case.bytes)) {
+            return Ok(false);
+        }
+        let expected = reader::refusal(&case.bytes);
+        let problem = self.problem(&case, expected);
+        if let Some((what, expected, got)) = problem {
+            return Err(Mismatch {
+                what,
+                expected,
+                got,
+                bytes: case.bytes,
+            });
+        }
+        self.strings += 1;
+        self.total_bytes += case.bytes.len() as u64;
+        self.numbers[expected as usize] += 1;
+        if expected == 0 {
+            self.node_counts[usize::from(case.bytes[5])] += 1;
+        }
+        Ok(true)
+    }
+
+    /// The first disagreement: what it is, the number expected and that got.
+    fn problem(&mut self, case: &Case, expected: u64) -> Option<(&'static str, u64, u64)> {
+        if let Some(known) = case.expected {
+            if known != expected {
+                return Some(("independent reader against the generator", known, expected));
+            }
+            self.known += 1;
+        }
+        for fill in FILLS {
+            let (got, kept) = self.call(&case.bytes, fill);
+            if got != expected {
+                return Some(("library against the independent reader", expected, got));
+            }
+            if !kept {
+                return Some((
+                    "library wrote to the lent bytes or beside them",
+                    expected,
+                    got,
+                ));
+            }
+        }
+        None
+    }
+
+    /// The library's answer for `bytes` between guard bytes, at an alignment
+    /// that varies, and whether it left all of them as they were.
+    fn call(&mut self, bytes: &[u8], fill: u8) -> (u64, bool) {
+        let start = GUARD + ((self.strings + u64::from(fill)) % 16) as usize;
+        let end = start + bytes.len();
+        self.buffer.clear();
+        self.buffer.resize(end + GUARD, fill);
+        self.buffer[start..end].copy_from_slice(bytes);
+
+        let got = library::refusal(&mut self.buffer, start..end);
+
+        let guards = self.buffer[..start].iter().chain(&self.buffer[end..]);
+        let kept = self.buffer[start..end] == *bytes && guards.copied().all(|byte| byte == fill);
+        (got, kept)
+    }
+}
+
+fn hash(bytes: &[u8]) -> u64 {
+    let mut hasher = DefaultHasher::new();
+    bytes.hash(&mut hasher);
+    hasher.finish()
+}

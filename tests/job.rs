@@ -1,0 +1,87 @@
+//! A job as fields, and its bytes.
+
+pub const MOST_NODES: usize = 64;
+pub const MOST_FRAMES: usize = 65_536;
+pub const GREATEST_DELAY: u16 = 4_096;
+pub const GREATEST_AMOUNT: u64 = 1_099_511_627_775;
+pub const GREATEST_FRAME: u32 = 16_777_215;
+
+pub const HEADER_BYTES: usize = 10;
+pub const RECORD_BYTES: usize = 19;
+pub const FRAME_BYTES: usize = 4;
+
+/// What a job says of one node other than the root.
+#[derive(Clone, Default)]
+pub struct Record {
+    pub parent: u8,
+    pub delay: u16,
+    pub memory: u64,
+    pub rate: u64,
+}
+
+/// Any values may stand in the fields: the counts in the header need not be
+/// those of the lists.
+#[derive(Clone)]
+pub struct Job {
+    pub mark: [u8; 3],
+    pub version: u16,
+    pub node_count: u8,
+    pub frame_count: u32,
+    pub records: Vec<Record>,
+    pub frames: Vec<u32>,
+}
+
+impl Job {
+    /// The job with these lists and a header that fits them.
+    pub fn new(records: Vec<Record>, frames: Vec<u32>) -> Self {
+        Job {
+            mark: *b"RLY",
+            version: 1,
+            node_count: u8::try_from(records.len() + 1).expect("at most 255 nodes"),
+            frame_count: u32::try_from(frames.len()).expect("frame count in 32 bits"),
+            records,
+            frames,
+        }
+    }
+
+    /// Whether `node` is some node's parent.
+    pub fn is_inner(&self, node: usize) -> bool {
+        self.records
+            .iter()
+            .any(|record| usize::from(record.parent) == node)
+    }
+
+    /// The nodes other than the root that are inner (or are leaves).
+    pub fn nodes(&self, inner: bool) -> Vec<usize> {
+        (1..=self.records.len())
+            .filter(|&node| self.is_inner(node) == inner)
+            .collect()
+    }
+
+    /// The record of `node`, which is above 0.
+    pub fn record(&mut self, node: usize) -> &mut Record {
+        &mut self.records[node - 1]
+    }
+
+    pub fn length(&self) -> usize {
+        HEADER_BYTES + RECORD_BYTES * self.records.len() + FRAME_BYTES * self.frames.len()
+    }
+
+    pub fn encode(&self) -> Vec<u8> {
+        let mut bytes = Vec::with_capacity(self.length());
+        bytes.extend(self.mark);
+        bytes.extend(self.version.to_be_bytes());
+        bytes.push(self.node_count);
+        bytes.extend(self.frame_count.to_be_bytes());
+        for record in &self.records {
+            bytes.push(record.parent);
+            bytes.extend(record.delay.to_be_bytes());
+            bytes.extend(record.memory.to_be_bytes());
+            bytes.extend(record.rate.to_be_bytes());
+        }
+        for frame in &self.frames {
+            bytes.extend(frame.to_be_bytes());
+        }
+        bytes
+    }
+}

@@ -1,0 +1,81 @@
+//! The independent reader: the table of refusals, row by row, with its numbers
+//! written out.
+
+/// The big-endian number that `bytes` hold.
+fn number(bytes: &[u8]) -> u64 {
+    let mut value = 0;
+    for &byte in bytes {
+        value = value * 256 + u64::from(byte);
+    }
+    value
+}
+
+struct Node {
+    own: u64,
+    parent: u64,
+    delay: u64,
+    memory: u64,
+    rate: u64,
+}
+
+/// 0 where `bytes` are a job, else the first refusal of 1 to 10 that applies.
+pub fn refusal(bytes: &[u8]) -> u64 {
+    if bytes.len() < 10 {
+        return 1;
+    }
+    if bytes[0] != 0x52 || bytes[1] != 0x4C || bytes[2] != 0x59 {
+        return 2;
+    }
+    if number(&bytes[3..5]) != 1 {
+        return 3;
+    }
+    let n = number(&bytes[5..6]);
+    if !(2..=64).contains(&n) {
+        return 4;
+    }
+    let m = number(&bytes[6..10]);
+    if !(1..=65_536).contains(&m) {
+        return 5;
+    }
+    if bytes.len() as u64 != 10 + 19 * (n - 1) + 4 * m {
+        return 6;
+    }
+
+    let mut nodes = Vec::new();
+    for own in 1..n {
+        let start = 10 + 19 * (own as usize - 1);
+        let record = &bytes[start..start + 19];
+        nodes.push(Node {
+            own,
+            parent: number(&record[0..1]),
+            delay: number(&record[1..3]),
+            memory: number(&record[3..11]),
+            rate: number(&record[11..19]),
+        });
+    }
+
+    for node in &nodes {
+        if node.parent >= node.own {
+            return 7;
+        }
+    }
+    for node in &nodes {
+        let leaf = nodes.iter().all(|other| other.parent != node.own);
+        let greatest = if leaf { 4_096 } else { 0 };
+        if node.delay > greatest {
+            return 8;
+        }
+    }
+    for node in &nodes {
+        if node.memory > 1_099_511_627_775 || node.rate > 1_099_511_627_775 {
+            return 9;
+        }
+    }
+    let frames = &bytes[10 + 19 * (n as usize - 1)..];
+    for frame in frames.chunks(4) {
+        if number(frame) > 16_777_215 {
+            return 10;
+        }
+    }
+    0
+}

@@ -80,6 +80,12 @@ pub filled-more : (f : ℕ → ℕ) (k : ℕ) (l p : List ℕ) → Filled f k l 
 filled-more f k l p h i =
     (omega arith, (length-set p k (f k) ∙ h .1 .0, ap (λ (q : List ℕ). set q k (f k)) (h .1 .1) ∙ tab-store f k l i))
 
+-- what is filled stays filled, seen from where a loop begins
+pub filled-again : (f : ℕ → ℕ) (k : ℕ) (l p : List ℕ) → Filled f k l p → Filled f k p p
+filled-again f k l p h =
+    let d : drop k p ≡ drop k l = ap (drop k) (h .1 .1) ∙ drop-at (tab f k) (drop k l) k (length-tab f k) in
+    (omega (arith, h .1 .0), (refl, rw d (h .1 .1)))
+
 pub filled-done : (f : ℕ → ℕ) (k : ℕ) (l p : List ℕ) → Filled f k l p → length l ≤ k → p ≡ tab f (length l)
 filled-done f k l p h i =
     let e : k ≡ length l = omega arith in

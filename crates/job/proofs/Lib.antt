@@ -1,3 +1,4 @@
+mod Examples
 pub mod NodeLaws
 pub mod ReadLaws
 pub mod RefusalLaws

@@ -11,7 +11,7 @@ use Rattle.base.proofs.BoolLaws.{lt-or-le}
 use Rattle.base.proofs.TableLaws.{length-tab, getD-tab, getD-tab-past, tab-cong}
 use Rattle.job.specs.Limits.{mostNodes}
 use Rattle.job.specs.Tree.{Tree, link}
-use Rattle.job.specs.Bytes.{recordWidth, frameWidth, recordPlace, framesPlace, nodeCount, frameCount, wantedLength, perNode}
+use Rattle.job.specs.Bytes.{headerWidth, recordWidth, frameWidth, recordPlace, framesPlace, nodeCount, frameCount, wantedLength, perNode}
 use Rattle.job.specs.Read.{Sized, structOf, treeIn}
 use Rattle.job.proofs.TreeLaws.{link-is, link-past}
 
@@ -101,7 +101,11 @@ zeros-are = refl
 
 -- ---- places
 
--- each record lies within the bytes, and so does each frame
+-- the fields before the records lie within the bytes, and so does each record and each frame
+pub header-in : (s : List ℕ) → Sized s → headerWidth ≤ length s
+unfolding wantedLength
+header-in s z = omega (arith, z .long)
+
 pub record-in : (s : List ℕ) → Sized s → (i : ℕ) → 0 < i → i < nodeCount s → recordPlace i + recordWidth ≤ length s
 unfolding wantedLength
 record-in s z i h k = omega (arith, z .long)

@@ -7,7 +7,7 @@ use lib.Dec.{eqb, ltb}
 use lib.ListN.{length, getD}
 use Rattle.base.specs.Range.{some}
 use Rattle.base.specs.Table.{tab}
-use Rattle.job.specs.Limits.{fewestNodes, mostNodes, fewestFrames, mostFrames}
+use Rattle.job.specs.Limits.{fewestNodes, mostNodes, fewestFrames, mostFrames, longestDelay, greatestMemory, greatestRate, greatestFrame}
 use Rattle.job.specs.Tree.{Tree, JobData, leaf}
 use Rattle.job.specs.Bytes.{mark, version, markRLY, versionOne, headerWidth, nodeCount, frameCount, parentAt, delayAt, memoryAt, rateAt, frameAt, wantedLength, perNode, treeOf}
 use Rattle.job.specs.Refusal.{outside, parentWrong, delayWrong, amountWrong, frameWrong, someNode, refusal}
@@ -19,6 +19,20 @@ use Rattle.job.specs.declared.NodeMade.{NodeMade}
 use Rattle.job.specs.declared.NodeMade.the-variants as node-made
 use Rattle.job.specs.declared.Job.{Job}
 use Rattle.job.specs.declared.Reading.{Reading}
+use Rattle.job.specs.declared.Limits.{Limits}
+
+-- every bound, as a struct
+abbrev pub limits : Limits
+limits =
+    record {
+      «fewest_nodes» = fewestNodes;
+      «most_nodes» = mostNodes;
+      «fewest_frames» = fewestFrames;
+      «most_frames» = mostFrames;
+      «longest_delay» = longestDelay;
+      «greatest_memory» = greatestMemory;
+      «greatest_rate» = greatestRate;
+      «greatest_frame» = greatestFrame }
 
 -- the struct that holds a tree and a frame count: place i of each array is node i's
 abbrev pub structOf : Tree → ℕ → Job

@@ -7,12 +7,13 @@ ghost use lib.Dec.{eqb, ltb};
 ghost use lib.ListN.{length, getD};
 ghost use Rattle.base.specs.Range.{some, greatest};
 ghost use Rattle.base.specs.Set.{has, wordBits};
-ghost use Rattle.job.specs.Limits.{fewestNodes, mostNodes, mostFrames};
+ghost use Rattle.base.specs.Table.{tab};
+ghost use Rattle.job.specs.Limits.{fewestNodes, mostNodes, fewestFrames, mostFrames, longestDelay, greatestMemory, greatestRate, greatestFrame};
 ghost use Rattle.job.specs.Tree as tree;
 ghost use Rattle.job.specs.Tree.{hasChild, child, leaf, below, planLength, TreeWithin};
-ghost use Rattle.job.specs.Bytes.{recordPlace, nodeCount, frameCount, frameAt, treeOf};
-ghost use Rattle.job.specs.Refusal.{delayWrong, frameWrong};
-ghost use Rattle.job.specs.Read.{newFrame, newNode, newJob, refusedWith, structOf, bareTree, treeIn, jobIn, nodeAt, parentsOf, refusedOr, headRefusal, nodesRefusal, restRefusal, readOf, sooner, Sized};
+ghost use Rattle.job.specs.Bytes.{recordPlace, nodeCount, frameCount, frameAt, treeOf, jobOf};
+ghost use Rattle.job.specs.Refusal.{delayWrong, frameWrong, refusal};
+ghost use Rattle.job.specs.Read.{limits, newFrame, newNode, newJob, refusedWith, structOf, bareTree, treeIn, jobIn, nodeAt, parentsOf, refusedOr, headRefusal, nodesRefusal, restRefusal, readOf, sooner, Sized};
 
 // A frame's size in bytes.
 pub struct Frame {
@@ -445,4 +446,60 @@ pub fn read(s: &[u8]) -> Reading
         return refused(6);
     }
     read_rest(s, job)
+}
+
+// T(0) to T(M) of an accepted job, one after the other.
+pub fn sums(s: &[u8], out: &mut [u64])
+    requires { ⌜ (refusal (now s) ≡ 0) × (length (now out) ≡ frameCount (now s) + 1) ⌝ }
+    ensures { λ _. ⌜ now (out .exit) ≡ tab (tree.T (jobOf (now (s .entry)))) (frameCount (now (s .entry)) + 1) ⌝ }
+{
+    let nodes = base::number_at(s, 5, 1);
+    let frames = out.len() - 1;
+    let mut at = record_place(nodes as usize);
+    let mut total: u64 = 0;
+    let mut m = 0;
+    out[0] = 0;
+    while m < frames {
+        total += base::number4_at(s, at);
+        at += Frame::WIDTH;
+        m += 1;
+        out[m] = total;
+    }
+}
+
+// Every bound at once. Each is the constant of its type, and the number that specs/Limits has.
+pub struct Limits {
+    pub fewest_nodes: usize,
+    pub most_nodes: usize,
+    pub fewest_frames: usize,
+    pub most_frames: usize,
+    pub longest_delay: usize,
+    pub greatest_memory: u64,
+    pub greatest_rate: u64,
+    pub greatest_frame: u64,
+}
+
+impl Limits {
+    pub fn all() -> Limits
+        ensures { λ r. ⌜ r ≡ limits ⌝ }
+        ensures { λ _. do ⌜ (← ⟦Job::FEWEST_NODES⟧ .entry) ≡ fewestNodes ⌝ }
+        ensures { λ _. do ⌜ (← ⟦Job::MOST_NODES⟧ .entry) ≡ mostNodes ⌝ }
+        ensures { λ _. do ⌜ (← ⟦Job::FEWEST_FRAMES⟧ .entry) ≡ fewestFrames ⌝ }
+        ensures { λ _. do ⌜ (← ⟦Job::MOST_FRAMES⟧ .entry) ≡ mostFrames ⌝ }
+        ensures { λ _. do ⌜ (← ⟦Node::LONGEST_DELAY⟧ .entry) ≡ longestDelay ⌝ }
+        ensures { λ _. do ⌜ (← ⟦Node::GREATEST_MEMORY⟧ .entry) ≡ greatestMemory ⌝ }
+        ensures { λ _. do ⌜ (← ⟦Node::GREATEST_RATE⟧ .entry) ≡ greatestRate ⌝ }
+        ensures { λ _. do ⌜ (← ⟦Frame::GREATEST⟧ .entry) ≡ greatestFrame ⌝ }
+    {
+        Limits {
+            fewest_nodes: Job::FEWEST_NODES,
+            most_nodes: Job::MOST_NODES,
+            fewest_frames: Job::FEWEST_FRAMES,
+            most_frames: Job::MOST_FRAMES,
+            longest_delay: Node::LONGEST_DELAY,
+            greatest_memory: Node::GREATEST_MEMORY,
+            greatest_rate: Node::GREATEST_RATE,
+            greatest_frame: Frame::GREATEST,
+        }
+    }
 }

@@ -2,11 +2,32 @@
 use mathlib.Core.Bool.{Bool, true, false, cond, not, _&&_, _||_}
 use mathlib.Core.Path.{_≡_, refl, ap, sym, _∙_, fun-ext}
 use mathlib.Core.Logic.{_⊎_, inl, inr, ⊎-elim}
-use Prim.Native.Nat.{ℕ, zero, suc, _+_, _-_, _≤_, _<_, max}
-use native.Mathlib.Nat.{eq-or-lt-of-le, add-zero, add-suc}
+use Prim.Native.Nat.{ℕ, zero, suc, _+_, _-_, _*_, _≤_, _<_, max}
+use native.Mathlib.Nat.{suc-mul, eq-or-lt-of-le, add-zero, add-suc}
 use native.Mathlib.Omega.{arith}
-use Rattle.base.specs.Range.{some, howMany, least, fold, greatest}
+use Rattle.base.specs.Range.{sum, some, howMany, first, fold, greatestOver}
 use Rattle.base.proofs.BoolLaws.{true-or-false, not-both, otherwise, lt-or-le, or-no-left, or-no-right, or-right, or-cases}
+
+-- ---- sums
+
+pub sum-le : (f : ℕ → ℕ) (m k : ℕ) → m ≤ k → sum f m ≤ sum f k
+unfolding sum
+sum-le f m zero h = let e : m ≡ 0 = omega arith in rw e (omega arith)
+sum-le f m (suc k) h =
+    ⊎-elim
+    (λ (l : m < suc k). omega (arith, sum-le f m k (omega arith)))
+    (λ (l : suc k ≤ m). let e : m ≡ suc k = omega arith in rw e (omega arith))
+    (lt-or-le m (suc k))
+
+pub sum-bound : (f : ℕ → ℕ) (most m : ℕ) → ((i : ℕ) → i < m → f i ≤ most) → sum f m ≤ m * most
+unfolding sum
+sum-bound f most zero h = omega arith
+sum-bound f most (suc m) h = rw suc-mul (omega (arith, sum-bound f most m (λ i q. h i (omega arith)), h m (omega arith)))
+
+pub sum-cong : (f g : ℕ → ℕ) (m : ℕ) → ((i : ℕ) → i < m → f i ≡ g i) → sum f m ≡ sum g m
+unfolding sum
+sum-cong f g zero h = refl
+sum-cong f g (suc m) h = rw (sum-cong f g m (λ i q. h i (omega arith)), h m (omega arith))
 
 -- ---- some
 
@@ -67,41 +88,41 @@ module _ {A : Type 0} (step : A → ℕ → A) (z : A) (p : ℕ → Bool) where
   unfolding fold
   fold-take n h = rw h
 
--- ---- greatest
+-- ---- the greatest
 
-pub greatest-above : (p : ℕ → Bool) (f : ℕ → ℕ) (n i : ℕ) → i < n → p i ≡ true → f i ≤ greatest p f n
+pub greatestOver-above : (p : ℕ → Bool) (f : ℕ → ℕ) (n i : ℕ) → i < n → p i ≡ true → f i ≤ greatestOver p f n
 unfolding fold
-greatest-above p f zero i h t = absurd (omega arith)
-greatest-above p f (suc n) i h t =
+greatestOver-above p f zero i h t = absurd (omega arith)
+greatestOver-above p f (suc n) i h t =
     ⊎-elim
     (λ (e : i ≡ n). let u : p n ≡ true = rw e at t in rw (u, e) (omega arith))
-    (λ (l : i < n). go (p n) (greatest-above p f n i l t))
+    (λ (l : i < n). go (p n) (greatestOver-above p f n i l t))
     (eq-or-lt-of-le (omega arith))
   where
-    go : (b : Bool) → f i ≤ greatest p f n → f i ≤ cond b (max (greatest p f n) (f n)) (greatest p f n)
+    go : (b : Bool) → f i ≤ greatestOver p f n → f i ≤ cond b (max (greatestOver p f n) (f n)) (greatestOver p f n)
     go true q = omega arith
     go false q = q
 
-pub greatest-under : (p : ℕ → Bool) (f : ℕ → ℕ) (n m : ℕ) → ((i : ℕ) → i < n → p i ≡ true → f i ≤ m) → greatest p f n ≤ m
+pub greatestOver-under : (p : ℕ → Bool) (f : ℕ → ℕ) (n m : ℕ) → ((i : ℕ) → i < n → p i ≡ true → f i ≤ m) → greatestOver p f n ≤ m
 unfolding fold
-greatest-under p f zero m h = omega arith
-greatest-under p f (suc n) m h =
+greatestOver-under p f zero m h = omega arith
+greatestOver-under p f (suc n) m h =
     ⊎-elim
-    (λ (e : p n ≡ true). rw e (omega (arith, greatest-under p f n m (λ i l. h i (omega arith)), h n (omega arith) e)))
-    (λ (e : p n ≡ false). rw e (greatest-under p f n m (λ i l. h i (omega arith))))
+    (λ (e : p n ≡ true). rw e (omega (arith, greatestOver-under p f n m (λ i l. h i (omega arith)), h n (omega arith) e)))
+    (λ (e : p n ≡ false). rw e (greatestOver-under p f n m (λ i l. h i (omega arith))))
     (true-or-false (p n))
 
--- ---- least
+-- ---- the first
 
--- what settles the least: it passes or is n, and nothing lower passes
-pub least-is : (p : ℕ → Bool) (n r : ℕ) → r ≤ n → (r < n → p r ≡ true) → ((j : ℕ) → j < r → p j ≡ false) → r ≡ least p n
-unfolding least
-least-is p zero r h t f = omega arith
-least-is p (suc n) r h t f =
-    go (λ l. least-is p n r l (λ k. t (omega arith)) f) (true-or-false (some p n)) (true-or-false (p n))
+-- what settles the first: it passes or is n, and nothing lower passes
+pub first-is : (p : ℕ → Bool) (n r : ℕ) → r ≤ n → (r < n → p r ≡ true) → ((j : ℕ) → j < r → p j ≡ false) → r ≡ first p n
+unfolding first
+first-is p zero r h t f = omega arith
+first-is p (suc n) r h t f =
+    go (λ l. first-is p n r l (λ k. t (omega arith)) f) (true-or-false (some p n)) (true-or-false (p n))
   where
-    go : (r ≤ n → r ≡ least p n) → (some p n ≡ true) ⊎ (some p n ≡ false) → (p n ≡ true) ⊎ (p n ≡ false)
-        → r ≡ cond (some p n) (least p n) (cond (p n) n (suc n))
+    go : (r ≤ n → r ≡ first p n) → (some p n ≡ true) ⊎ (some p n ≡ false) → (p n ≡ true) ⊎ (p n ≡ false)
+        → r ≡ cond (some p n) (first p n) (cond (p n) n (suc n))
     go ih (inl e) c =
         let (i, q, u) = which-passes p n e in
         ⊎-elim (λ (k : i < r). absurd (not-both u (f i k))) (λ (k : r ≤ i). rw e (ih (omega arith))) (lt-or-le i r)

@@ -11,10 +11,10 @@ use lib.Arith.{digits-div, digits-mod}
 use lib.Bits.{bitAnd, bitOr, and-step, or-step, and-self, and-le-l, and-le-r}
 use lib.Count.{trailingZeros, under, ones, ones-step, trailing-of-zero}
 use lib.Dec.{eqb, leb, ltb}
-use Rattle.base.specs.Range.{some, howMany, least, fold}
+use Rattle.base.specs.Range.{some, howMany, first, fold}
 use Rattle.base.specs.Set.{has, wordBits}
 use Rattle.base.proofs.BoolLaws.{true-or-false, not-both, otherwise, lt-or-le, and-left, and-right, and-true, and-no-right, or-false}
-use Rattle.base.proofs.RangeLaws.{least-is, fold-skip, fold-take}
+use Rattle.base.proofs.RangeLaws.{first-is, fold-skip, fold-take}
 
 -- ---- digits, one after the other
 
@@ -179,25 +179,25 @@ low-lt (suc k) n h l = go (n % 2) refl (λ (q : 0 < n / 2). low-lt k (n / 2) q (
     go (suc r) e ih = omega arith
 
 -- the count of trailing zeros is the least member, and the word's width where there is none
-pub lowest-is : (s : ℕ) → s < 2 ^ 64 → trailingZeros 64 s ≡ least (has s) wordBits
+pub lowest-is : (s : ℕ) → s < 2 ^ 64 → trailingZeros 64 s ≡ first (has s) wordBits
 lowest-is s h =
     ⊎-elim
-    (λ (p : 0 < s). least-is (has s) 64 (trailingZeros 64 s) (omega (arith, low-lt 64 s p h)) (λ q. has-is s _ (low-is 64 s p h)) (λ j q. has-isn't s j (low-first 64 s j q)))
+    (λ (p : 0 < s). first-is (has s) 64 (trailingZeros 64 s) (omega (arith, low-lt 64 s p h)) (λ q. has-is s _ (low-is 64 s p h)) (λ j q. has-isn't s j (low-first 64 s j q)))
     (λ (p : s ≤ 0).
         let e : s ≡ 0 = omega arith in
-        rw (e, trailing-of-zero 64) (least-is (has 0) 64 64 (omega arith) (λ q. absurd (omega arith)) (λ j q. has-none j)))
+        rw (e, trailing-of-zero 64) (first-is (has 0) 64 64 (omega arith) (λ q. absurd (omega arith)) (λ j q. has-none j)))
     (lt-or-le 0 s)
 
 -- of a set that has a member
 module _ (s : ℕ) (fits : s < 2 ^ 64) (some-in : 0 < s) where
-  pub least-in : has s (least (has s) wordBits) ≡ true
-  least-in = rw (← (lowest-is s fits)) (has-is s _ (low-is 64 s some-in fits))
+  pub first-in : has s (first (has s) wordBits) ≡ true
+  first-in = rw (← (lowest-is s fits)) (has-is s _ (low-is 64 s some-in fits))
 
-  pub least-lt : least (has s) wordBits < wordBits
-  least-lt = rw (← (lowest-is s fits)) (low-lt 64 s some-in fits)
+  pub first-lt : first (has s) wordBits < wordBits
+  first-lt = rw (← (lowest-is s fits)) (low-lt 64 s some-in fits)
 
-  pub least-first : (j : ℕ) → j < least (has s) wordBits → has s j ≡ false
-  least-first j h = has-isn't s j (low-first 64 s j (omega (arith, lowest-is s fits)))
+  pub first-first : (j : ℕ) → j < first (has s) wordBits → has s j ≡ false
+  first-first j h = has-isn't s j (low-first 64 s j (omega (arith, lowest-is s fits)))
 
 -- ---- n & (n - 1): the lowest member is taken away
 
@@ -242,7 +242,7 @@ cleared-to (suc k) n h l j q = go (n % 2) refl j q (λ (p : 0 < n / 2) i m. clea
     go (suc r) e zero q ih = absurd (omega arith)
     go (suc r) e (suc i) q ih = let d : n / 2 * 2 / 2 ≡ n / 2 = omega arith in rw (cleared-odd n (omega arith), d) refl
 
-pub has-cleared : (s : ℕ) → s < 2 ^ 64 → 0 < s → (j : ℕ) → has (bitAnd s (s - 1)) j ≡ (has s j && not (eqb j (least (has s) wordBits)))
+pub has-cleared : (s : ℕ) → s < 2 ^ 64 → 0 < s → (j : ℕ) → has (bitAnd s (s - 1)) j ≡ (has s j && not (eqb j (first (has s) wordBits)))
 unfolding cleared
 has-cleared s h p j = rw (← (lowest-is s h)) (go (lt-or-le (trailingZeros 64 s) j))
   where
@@ -311,33 +311,33 @@ module _ {A : Type 0} (step : A → ℕ → A) (z : A) (s : ℕ) where
   rest-past rest acc w j h = w .left j ∙ rw (le-leb (w .place) j h, and-true)
 
   -- the member met next is one of s
-  pub walk-in : (rest : ℕ) (acc : A) → Walked step z s rest acc → 0 < rest → has s (least (has rest) wordBits) ≡ true
+  pub walk-in : (rest : ℕ) (acc : A) → Walked step z s rest acc → 0 < rest → has s (first (has rest) wordBits) ≡ true
   walk-in rest acc w h =
-      let t = least (has rest) wordBits in
-      and-left (has s t) (leb (w .place) t) (sym (w .left t) ∙ least-in rest (w .fits) h)
+      let t = first (has rest) wordBits in
+      and-left (has s t) (leb (w .place) t) (sym (w .left t) ∙ first-in rest (w .fits) h)
 
   pub walk-next : (rest next : ℕ) (acc : A) → Walked step z s rest acc → 0 < rest → next ≤ rest - 1
-      → ((j : ℕ) → has next j ≡ (has rest j && not (eqb j (least (has rest) wordBits))))
-      → Walked step z s next (step acc (least (has rest) wordBits))
+      → ((j : ℕ) → has next j ≡ (has rest j && not (eqb j (first (has rest) wordBits))))
+      → Walked step z s next (step acc (first (has rest) wordBits))
   walk-next rest next acc w h le e =
       let from : w .place ≤ t =
-          leb-true (w .place) t (and-right (has s t) (leb (w .place) t) (sym (w .left t) ∙ least-in rest (w .fits) h)) in
+          leb-true (w .place) t (and-right (has s t) (leb (w .place) t) (sym (w .left t) ∙ first-in rest (w .fits) h)) in
       let gap : fold step z (has s) t ≡ fold step z (has s) (w .place) =
-          fold-skip step z (has s) (w .place) t from (λ j a b. sym (rest-past rest acc w j a) ∙ least-first rest (w .fits) h j b) in
+          fold-skip step z (has s) (w .place) t from (λ j a b. sym (rest-past rest acc w j a) ∙ first-first rest (w .fits) h j b) in
       record {
         place = suc t;
-        within = least-lt rest (w .fits) h;
+        within = first-lt rest (w .fits) h;
         fits = omega (arith, w .fits);
         left = λ j. e j ∙ past j from (lt-or-le t j);
         so-far = rw (fold-take step z (has s) t (walk-in rest acc w h), gap, w .so-far) refl }
     where
       t : ℕ
-      t = least (has rest) wordBits
+      t = first (has rest) wordBits
       past : (j : ℕ) → w .place ≤ t → (t < j) ⊎ (j ≤ t) → (has rest j && not (eqb j t)) ≡ (has s j && leb (suc t) j)
       past j from (inl l) = rw (ne-eqb j t (omega arith), le-leb (suc t) j l, and-true, and-true) (rest-past rest acc w j (omega arith))
       past j from (inr l) =
           ⊎-elim
-          (λ (q : j < t). rw (least-first rest (w .fits) h j q) refl)
+          (λ (q : j < t). rw (first-first rest (w .fits) h j q) refl)
           (λ (q : t ≤ j). and-no-right (has rest j) (ap not (eq-eqb j t (omega arith))))
           (lt-or-le j t)
           ∙ sym (and-no-right (has s j) (lt-leb (suc t) j (omega arith)))

@@ -5,7 +5,7 @@ ghost use Prim.Native.Nat.{ℕ, _+_, _-_, _^_, _≤_, _<_};
 ghost use lib.Dec.{eqb, ltb};
 ghost use lib.ListN.{length};
 ghost use Rattle.base.specs.Number.{number};
-ghost use Rattle.base.specs.Range.{howMany, least};
+ghost use Rattle.base.specs.Range.{howMany, first};
 ghost use Rattle.base.specs.Set.{has, wordBits};
 
 fn wide(byte: u8) -> u64
@@ -72,14 +72,14 @@ pub fn count(s: u64) -> usize
 
 // The lowest member of s; 64 where s is empty.
 pub fn lowest(s: u64) -> usize
-    ensures { λ r. ⌜ r ≡ least (has s) wordBits ⌝ }
+    ensures { λ r. ⌜ r ≡ first (has s) wordBits ⌝ }
 {
     u64::trailing_zeros(s) as usize
 }
 
 // The set s without its lowest member, by which a walk over s goes on: it is a smaller number, so the walk ends.
 pub fn without_lowest(s: u64) -> u64
-    ensures { λ r. ⌜ ((j : ℕ) → has r j ≡ (has s j && not (eqb j (least (has s) wordBits)))) × (r ≤ s - 1) ⌝ }
+    ensures { λ r. ⌜ ((j : ℕ) → has r j ≡ (has s j && not (eqb j (first (has s) wordBits)))) × (r ≤ s - 1) ⌝ }
 {
     if s == 0 {
         return 0;

@@ -6,8 +6,8 @@ use mathlib.Core.Path.{_≡_, refl}
 use Prim.Native.Nat.{ℕ, _-_, _/_, _%_, _^_}
 use lib.ListN.{take}
 use Rattle.base.specs.Number.{number}
-use Rattle.base.specs.Range.{some, fold}
-use Rattle.job.specs.Tree.{link, child, hasChild, leaf, inner, meets, below, sum, T, greatestDelay, H, planLength}
+use Rattle.base.specs.Range.{sum, some, fold}
+use Rattle.job.specs.Tree.{link, child, hasChild, leaf, inner, meets, below, T, greatestDelay, H, planLength}
 use Rattle.job.specs.Bytes.{mark, version, nodeCount, frameCount, parentAt, delayAt, memoryAt, rateAt, frameAt, wantedLength, perNode, jobOf, treeOf}
 use Rattle.job.specs.Refusal.{refusal}
 

@@ -3,37 +3,16 @@ use mathlib.Core.Bool.{Bool, true, false}
 use mathlib.Core.Path.{_≡_, refl, ap, sym, _∙_}
 use mathlib.Core.Logic.{_⊎_, inl, inr, ⊎-elim}
 use Prim.Native.Nat.{ℕ, zero, suc, _+_, _-_, _*_, _≤_, _<_, min, max}
-use native.Mathlib.Nat.{suc-mul, mul-le-mul, mul-le-mul-right, le-trans}
+use native.Mathlib.Nat.{mul-le-mul, mul-le-mul-right, le-trans}
 use native.Mathlib.Numerals.{add-one}
 use native.Mathlib.Omega.{arith}
-use Rattle.base.specs.Range.{fold, greatest}
+use Rattle.base.specs.Range.{sum, fold, greatestOver}
 use Rattle.base.specs.Set.{has, wordBits}
 use Rattle.base.proofs.BoolLaws.{not-both, lt-or-le}
-use Rattle.base.proofs.RangeLaws.{fold-cong, fold-skip, greatest-under, greatest-above}
+use Rattle.base.proofs.RangeLaws.{sum-le, sum-bound, sum-cong, fold-cong, fold-skip, greatestOver-under, greatestOver-above}
 use Rattle.job.specs.Limits.{mostNodes, mostFrames, longestDelay, greatestFrame}
-use Rattle.job.specs.Tree.{Tree, JobData, TreeWithin, JobWithin, link, leaf, sum, T, greatestDelay, H, planLength}
+use Rattle.job.specs.Tree.{Tree, JobData, TreeWithin, JobWithin, link, leaf, T, greatestDelay, H, planLength}
 use Rattle.job.proofs.TreeLaws.{link-is, leaf-in, leaf-past, leaf-childless, root-has-child}
-
--- ---- sums
-
-pub sum-le : (f : ℕ → ℕ) (m k : ℕ) → m ≤ k → sum f m ≤ sum f k
-unfolding sum
-sum-le f m zero h = let e : m ≡ 0 = omega arith in rw e (omega arith)
-sum-le f m (suc k) h =
-    ⊎-elim
-    (λ (l : m < suc k). omega (arith, sum-le f m k (omega arith)))
-    (λ (l : suc k ≤ m). let e : m ≡ suc k = omega arith in rw e (omega arith))
-    (lt-or-le m (suc k))
-
-pub sum-bound : (f : ℕ → ℕ) (most m : ℕ) → ((i : ℕ) → i < m → f i ≤ most) → sum f m ≤ m * most
-unfolding sum
-sum-bound f most zero h = omega arith
-sum-bound f most (suc m) h = rw suc-mul (omega (arith, sum-bound f most m (λ i q. h i (omega arith)), h m (omega arith)))
-
-pub sum-cong : (f g : ℕ → ℕ) (m : ℕ) → ((i : ℕ) → i < m → f i ≡ g i) → sum f m ≡ sum g m
-unfolding sum
-sum-cong f g zero h = refl
-sum-cong f g (suc m) h = rw (sum-cong f g m (λ i q. h i (omega arith)), h m (omega arith))
 
 -- ---- T
 
@@ -98,16 +77,16 @@ leaf-link t w i h =
 
 pub greatestDelay-le : (t : Tree) → TreeWithin t → greatestDelay t ≤ longestDelay
 unfolding greatestDelay
-greatestDelay-le t w = greatest-under (leaf t) (t .delay) (t .n) longestDelay (λ i q h. w .leaf-delays i (leaf-link t w i h) h)
+greatestDelay-le t w = greatestOver-under (leaf t) (t .delay) (t .n) longestDelay (λ i q h. w .leaf-delays i (leaf-link t w i h) h)
 
 -- no leaf's delay is above the greatest
 pub delay-le : (t : Tree) (i : ℕ) → leaf t i ≡ true → t .delay i ≤ greatestDelay t
 unfolding greatestDelay
-delay-le t i h = greatest-above (leaf t) (t .delay) (t .n) i (leaf-in t i h) h
+delay-le t i h = greatestOver-above (leaf t) (t .delay) (t .n) i (leaf-in t i h) h
 
 -- the greatest delay as a walk over the set of leaves finds it
 pub greatestDelay-set : (t : Tree) (set : ℕ) → t .n ≤ wordBits → ((k : ℕ) → has set k ≡ leaf t k)
-    → greatest (has set) (t .delay) wordBits ≡ greatestDelay t
+    → greatestOver (has set) (t .delay) wordBits ≡ greatestDelay t
 unfolding greatestDelay
 greatestDelay-set t set h e =
     fold-cong _ 0 (has set) (leaf t) wordBits (λ i q. e i) ∙ fold-skip _ 0 (leaf t) (t .n) wordBits h (λ i p q. leaf-past t i p)

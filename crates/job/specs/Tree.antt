@@ -3,7 +3,7 @@ use mathlib.Core.Bool.{Bool, true, false, not, _&&_, _||_}
 use mathlib.Core.Path.{_≡_}
 use Prim.Native.Nat.{ℕ, zero, suc, _+_, _-_, _*_, _≤_, _<_, min}
 use lib.Dec.{ltb, eqb}
-use Rattle.base.specs.Range.{some, greatest}
+use Rattle.base.specs.Range.{sum, some, greatestOver}
 use Rattle.job.specs.Limits.{fewestNodes, mostNodes, fewestFrames, mostFrames, longestDelay, greatestMemory, greatestRate, greatestFrame}
 
 -- The tree: n nodes, of which 0 is the root; and of each node 1 to n-1 its parent, its start delay d, its memory b and its link's rate r.
@@ -51,11 +51,6 @@ meets parent (suc steps) (suc i) a = eqb (parent (suc i)) a || meets parent step
 unfoldable pub below : Tree → ℕ → ℕ → Bool
 below t i a = ltb i (t .n) && meets (t .parent) i i a
 
--- f 0 + f 1 + .. + f (m-1)
-unfoldable pub sum : (ℕ → ℕ) → ℕ → ℕ
-sum f zero = 0
-sum f (suc m) = sum f m + f m
-
 -- T(m): the sum of the first m frames, and T(M) for m above M. Document 01 has T(m) = 0 for m below 0. There is no whole number
 -- below 0 here: T(k - d) is written T (k - d) with the difference cut off at 0, which is right only because T(0) is 0 too.
 unfoldable pub T : JobData → ℕ → ℕ
@@ -63,7 +58,7 @@ T j m = sum (j .frame) (min m (j .M))
 
 -- the greatest delay of a leaf
 unfoldable pub greatestDelay : Tree → ℕ
-greatestDelay t = greatest (leaf t) (t .delay) (t .n)
+greatestDelay t = greatestOver (leaf t) (t .delay) (t .n)
 
 -- H, the last slot: M plus the greatest leaf delay
 unfoldable pub H : JobData → ℕ

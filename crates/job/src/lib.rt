@@ -5,7 +5,7 @@ ghost use mathlib.Core.Path.{_≡_};
 ghost use Prim.Native.Nat.{ℕ, _+_, _-_, _*_, _≤_, _<_, max};
 ghost use lib.Dec.{eqb, ltb};
 ghost use lib.ListN.{length, getD};
-ghost use Rattle.base.specs.Range.{some, greatest};
+ghost use Rattle.base.specs.Range.{some, greatestOver};
 ghost use Rattle.base.specs.Set.{has, wordBits};
 ghost use Rattle.base.specs.Table.{tab};
 ghost use Rattle.job.specs.Limits.{fewestNodes, mostNodes, fewestFrames, mostFrames, longestDelay, greatestMemory, greatestRate, greatestFrame};
@@ -163,7 +163,7 @@ impl Job {
     }
 
     // The nodes that are somebody's parent. Parents may be any numbers here: the reader asks before it has tested them.
-    pub fn inner_nodes(self) -> u64
+    fn inner_nodes(self) -> u64
         requires { ⌜ (fewestNodes ≤ self .nodes) × (self .nodes ≤ mostNodes) ⌝ }
         ensures { λ r. ⌜ ((k : ℕ) → has r k ≡ (hasChild (treeIn self) k && ltb k wordBits)) ⌝ }
     {
@@ -275,7 +275,7 @@ fn greater(a: usize, b: usize) -> usize
 
 // The greatest of the numbers at the members of a set.
 fn longest(set: u64, delay: &[usize; Job::MOST_NODES]) -> usize
-    ensures { λ r. ⌜ r ≡ greatest (has set) (λ i. getD (now (delay .entry)) i 0) wordBits ⌝ }
+    ensures { λ r. ⌜ r ≡ greatestOver (has set) (λ i. getD (now (delay .entry)) i 0) wordBits ⌝ }
 {
     let mut acc: usize = 0;
     let mut rest = set;
@@ -446,6 +446,13 @@ pub fn read(s: &[u8]) -> Reading
         return refused(6);
     }
     read_rest(s, job)
+}
+
+// The number of the refusal alone.
+pub fn refusal(s: &[u8]) -> u64
+    ensures { λ r. ⌜ r ≡ refusal (now (s .entry)) ⌝ }
+{
+    read(s).refusal
 }
 
 // T(0) to T(M) of an accepted job, one after the other.

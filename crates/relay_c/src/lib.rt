@@ -7,5 +7,5 @@ ghost use Rattle.job.specs.Refusal.{refusal};
 pub extern "C" fn relay_refusal(job: &[u8]) -> u64
     ensures { λ r. ⌜ r ≡ refusal (now (job .entry)) ⌝ }
 {
-    job::read(job).refusal
+    job::refusal(job)
 }

@@ -1,7 +1,7 @@
 use Rattle.base.specs.Set.{has, wordBits}
-use Rattle.base.specs.Range.{least}
+use Rattle.base.specs.Range.{first}
 use Prim.Native.Nat.{_<_}
-use Rattle.base.proofs.SetLaws.{Walked, walk-start, walk-next, walk-done, least-lt}
+use Rattle.base.proofs.SetLaws.{Walked, walk-start, walk-next, walk-done, first-lt}
 use lib.ListN.{getD}
 use Prim.Native.Nat.{max}
 use borrow.Author.Needs.{needs}
@@ -23,8 +23,8 @@ abbrev μ-loop : tie.MeasureT-loop
 loop-holds : tie.Need-loop-holds Inv-loop μ-loop
 loop-holds c = walk-start _ _ _ (omega arith)
 
-low : (c : tie.In-loop Inv-loop μ-loop) → least (has (c .before .loop .rest)) wordBits < wordBits
-low c = least-lt (c .before .loop .rest) (c .before .loop .inv .fits) (omega arith)
+low : (c : tie.In-loop Inv-loop μ-loop) → first (has (c .before .loop .rest)) wordBits < wordBits
+low c = first-lt (c .before .loop .rest) (c .before .loop .inv .fits) (omega arith)
 
 lowest-requires : tie.Need-lowest-requires Inv-loop μ-loop
 lowest-requires c κs = search needs

@@ -2,12 +2,12 @@
 use mathlib.Core.Bool.{Bool, true, false, _&&_, _||_}
 use mathlib.Core.Path.{_≡_, refl, ap, sym, _∙_}
 use mathlib.Core.Logic.{_⊎_, inl, inr, ⊎-elim}
-use Prim.Native.Nat.{ℕ, suc, _+_, _≤_, _<_}
+use Prim.Native.Nat.{ℕ, _+_, _≤_, _<_}
 use native.Mathlib.Omega.{arith}
-use borrow.Author.Tests.{lt-ltb, le-ltb, eq-eqb, ne-eqb, eqb-true, eqb-false}
 use lib.Dec.{eqb, ltb}
+use borrow.Author.Tests.{lt-ltb, le-ltb, eq-eqb, eqb-true, eqb-false}
 use Rattle.base.specs.Set.{has, wordBits}
-use Rattle.base.proofs.BoolLaws.{true-or-false, otherwise, iff-same, and-true, and-no-right, or-false, lt-or-le}
+use Rattle.base.proofs.BoolLaws.{true-or-false, iff-same, and-no-right, or-false, lt-or-le}
 use Rattle.base.proofs.SetLaws.{has-none}
 
 pub eqb-sym : (a b : ℕ) → eqb a b ≡ eqb b a

@@ -1,5 +1,6 @@
 pub mod BoolLaws
 pub mod CollectLaws
+mod Examples
 pub mod NumberLaws
 pub mod RangeLaws
 pub mod SetLaws

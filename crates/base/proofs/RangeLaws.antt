@@ -1,12 +1,12 @@
 -- Laws of the questions about the numbers below n that pass a test.
-use mathlib.Core.Bool.{Bool, true, false, cond, not, _&&_, _||_}
-use mathlib.Core.Path.{_≡_, refl, ap, sym, _∙_, fun-ext}
+use mathlib.Core.Bool.{Bool, true, false, cond}
+use mathlib.Core.Path.{_≡_, refl}
 use mathlib.Core.Logic.{_⊎_, inl, inr, ⊎-elim}
 use Prim.Native.Nat.{ℕ, zero, suc, _+_, _-_, _*_, _≤_, _<_, max}
 use native.Mathlib.Nat.{suc-mul, eq-or-lt-of-le, add-zero, add-suc}
 use native.Mathlib.Omega.{arith}
-use Rattle.base.specs.Range.{sum, some, howMany, first, fold, greatestOver}
-use Rattle.base.proofs.BoolLaws.{true-or-false, not-both, otherwise, lt-or-le, or-no-left, or-no-right, or-right, or-cases}
+use Rattle.base.specs.Range.{sum, some, first, fold, greatestOver}
+use Rattle.base.proofs.BoolLaws.{true-or-false, not-both, lt-or-le, or-no-left, or-no-right, or-cases}
 
 -- ---- sums
 
@@ -130,15 +130,15 @@ first-is p (suc n) r h t f =
         ⊎-elim
         (λ (k : n < r). absurd (not-both u (f n k)))
         (λ (k : r ≤ n). ⊎-elim
-            (λ (l : r < n). absurd (not-both (t (omega arith)) (none-passes p n e r l)))
-            (λ (l : n ≤ r). rw (e, u) (omega arith))
-            (lt-or-le r n))
+        (λ (l : r < n). absurd (not-both (t (omega arith)) (none-passes p n e r l)))
+        (λ (l : n ≤ r). rw (e, u) (omega arith))
+        (lt-or-le r n))
         (lt-or-le n r)
     go ih (inr e) (inr u) =
         ⊎-elim
         (λ (k : n < r). rw (e, u) (omega arith))
         (λ (k : r ≤ n). absurd (not-both (t (omega arith)) (⊎-elim
-            (λ (l : r < n). none-passes p n e r l)
-            (λ (l : n ≤ r). let q : r ≡ n = omega arith in rw q u)
-            (lt-or-le r n))))
+        (λ (l : r < n). none-passes p n e r l)
+        (λ (l : n ≤ r). let q : r ≡ n = omega arith in rw q u)
+        (lt-or-le r n))))
         (lt-or-le n r)

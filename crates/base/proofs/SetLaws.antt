@@ -1,19 +1,19 @@
 -- Laws of sets of numbers as 64-bit words: single digits, the lowest member, how many members, and the walk over all of them.
-use mathlib.Core.Bool.{Bool, true, false, cond, not, _&&_, _||_}
+use mathlib.Core.Bool.{Bool, true, false, not, _&&_, _||_}
 use mathlib.Core.Path.{_≡_, refl, ap, sym, _∙_}
 use mathlib.Core.Logic.{⊎-elim, _⊎_, inl, inr}
 use Prim.Native.Nat.{ℕ, zero, suc, _+_, _-_, _*_, _/_, _%_, _^_, _≤_, _<_, min, max}
 use native.Mathlib.Nat.{pow-suc, div-one, pow-succ', div-div-eq-div-mul, one-mul}
 use native.Mathlib.Omega.{arith}
-use borrow.Author.Tests.{eq-eqb, ne-eqb, eqb-true, eqb-false, le-leb, lt-leb, leb-true, lt-ltb, le-ltb}
 use lib.Pow.{shl-exact}
 use lib.Arith.{digits-div, digits-mod}
-use lib.Bits.{bitAnd, bitOr, and-step, or-step, and-self, and-le-l, and-le-r}
+use lib.Bits.{bitAnd, bitOr, and-step, or-step, and-self}
 use lib.Count.{trailingZeros, under, ones, ones-step, trailing-of-zero}
 use lib.Dec.{eqb, leb, ltb}
-use Rattle.base.specs.Range.{some, howMany, first, fold}
+use borrow.Author.Tests.{eq-eqb, ne-eqb, eqb-true, eqb-false, le-leb, lt-leb, leb-true, lt-ltb, le-ltb}
+use Rattle.base.specs.Range.{howMany, first, fold}
 use Rattle.base.specs.Set.{has, wordBits}
-use Rattle.base.proofs.BoolLaws.{true-or-false, not-both, otherwise, lt-or-le, and-left, and-right, and-true, and-no-right, or-false}
+use Rattle.base.proofs.BoolLaws.{true-or-false, lt-or-le, and-left, and-right, and-true, and-no-right, or-false}
 use Rattle.base.proofs.RangeLaws.{first-is, fold-skip, fold-take}
 
 -- ---- digits, one after the other
@@ -184,8 +184,8 @@ lowest-is s h =
     ⊎-elim
     (λ (p : 0 < s). first-is (has s) 64 (trailingZeros 64 s) (omega (arith, low-lt 64 s p h)) (λ q. has-is s _ (low-is 64 s p h)) (λ j q. has-isn't s j (low-first 64 s j q)))
     (λ (p : s ≤ 0).
-        let e : s ≡ 0 = omega arith in
-        rw (e, trailing-of-zero 64) (first-is (has 0) 64 64 (omega arith) (λ q. absurd (omega arith)) (λ j q. has-none j)))
+    let e : s ≡ 0 = omega arith in
+    rw (e, trailing-of-zero 64) (first-is (has 0) 64 64 (omega arith) (λ q. absurd (omega arith)) (λ j q. has-none j)))
     (lt-or-le 0 s)
 
 -- of a set that has a member
@@ -248,6 +248,7 @@ has-cleared s h p j = rw (← (lowest-is s h)) (go (lt-or-le (trailingZeros 64 s
   where
     t : ℕ
     t = trailingZeros 64 s
+
     go : (t < j) ⊎ (j ≤ t) → has (cleared s) j ≡ (has s j && not (eqb j t))
     go (inl l) =
         rw (ne-eqb j t (omega arith), and-true)
@@ -321,18 +322,20 @@ module _ {A : Type 0} (step : A → ℕ → A) (z : A) (s : ℕ) where
       → Walked step z s next (step acc (first (has rest) wordBits))
   walk-next rest next acc w h le e =
       let from : w .place ≤ t =
-          leb-true (w .place) t (and-right (has s t) (leb (w .place) t) (sym (w .left t) ∙ first-in rest (w .fits) h)) in
+      leb-true (w .place) t (and-right (has s t) (leb (w .place) t) (sym (w .left t) ∙ first-in rest (w .fits) h)) in
       let gap : fold step z (has s) t ≡ fold step z (has s) (w .place) =
-          fold-skip step z (has s) (w .place) t from (λ j a b. sym (rest-past rest acc w j a) ∙ first-first rest (w .fits) h j b) in
+      fold-skip step z (has s) (w .place) t from (λ j a b. sym (rest-past rest acc w j a) ∙ first-first rest (w .fits) h j b) in
       record {
         place = suc t;
         within = first-lt rest (w .fits) h;
         fits = omega (arith, w .fits);
         left = λ j. e j ∙ past j from (lt-or-le t j);
-        so-far = rw (fold-take step z (has s) t (walk-in rest acc w h), gap, w .so-far) refl }
+        so-far = rw (fold-take step z (has s) t (walk-in rest acc w h), gap, w .so-far) refl;
+      }
     where
       t : ℕ
       t = first (has rest) wordBits
+
       past : (j : ℕ) → w .place ≤ t → (t < j) ⊎ (j ≤ t) → (has rest j && not (eqb j t)) ≡ (has s j && leb (suc t) j)
       past j from (inl l) = rw (ne-eqb j t (omega arith), le-leb (suc t) j l, and-true, and-true) (rest-past rest acc w j (omega arith))
       past j from (inr l) =

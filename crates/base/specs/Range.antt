@@ -1,5 +1,5 @@
 -- Questions about the numbers 0 to n - 1: of all of them, or of those that pass a test.
-use mathlib.Core.Bool.{Bool, true, false, cond, _||_}
+use mathlib.Core.Bool.{Bool, false, cond, _||_}
 use Prim.Native.Nat.{ℕ, zero, suc, _+_, max}
 
 -- f 0 + f 1 + .. + f (n - 1)

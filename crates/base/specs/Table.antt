@@ -1,7 +1,7 @@
 -- Tables: a row of numbers given by a function of its place, and rows one after the other.
 use mathlib.Core.List.{List, [], _∷_, _++_}
-use Prim.Native.Nat.{ℕ, zero, suc, _≤_}
 use mathlib.Core.Path.{_≡_}
+use Prim.Native.Nat.{ℕ, zero, suc, _≤_}
 use lib.ListN.{length, drop}
 
 -- f 0, f 1, .., f (n - 1)

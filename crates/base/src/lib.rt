@@ -8,6 +8,9 @@ ghost use Rattle.base.specs.Number.{number};
 ghost use Rattle.base.specs.Range.{howMany, first};
 ghost use Rattle.base.specs.Set.{has, wordBits};
 
+// How many numbers a word has room for, as a set.
+pub const WORD_BITS: usize = 64;
+
 fn wide(byte: u8) -> u64
     ensures { λ r. ⌜ (r ≡ byte) × (r < 256) ⌝ }
 {
@@ -33,14 +36,15 @@ pub fn number4_at(s: &[u8], place: usize) -> u64
     requires { ⌜ place + 4 ≤ length (now s) ⌝ }
     ensures { λ r. ⌜ (r ≡ number (now (s .entry)) place 4) × (r < 256 ^ 4) ⌝ }
 {
-    ((wide(s[place]) * 256 + wide(s[place + 1])) * 256 + wide(s[place + 2])) * 256 + wide(s[place + 3])
+    ((wide(s[place]) * 256 + wide(s[place + 1])) * 256 + wide(s[place + 2])) * 256
+        + wide(s[place + 3])
 }
 
 // Whether i is in the set s.
 pub fn member(s: u64, i: usize) -> bool
     ensures { λ r. ⌜ r ≡ has s i ⌝ }
 {
-    if i < 64 {
+    if i < WORD_BITS {
         return (s >> i) % 2 == 1;
     }
     false
@@ -50,7 +54,7 @@ pub fn member(s: u64, i: usize) -> bool
 pub fn with(s: u64, i: usize) -> u64
     ensures { λ r. ⌜ ((j : ℕ) → has r j ≡ (has s j || (eqb j i && ltb j wordBits))) ⌝ }
 {
-    if i < 64 {
+    if i < WORD_BITS {
         return s | (1u64 << i);
     }
     s

@@ -1,6 +1,6 @@
 -- The definitions computed on document 01's tree Q: node 1 under the root, leaves 2 and 3 under node 1; frames 4, 10, 1.
 -- Expected values are written from the document.
-use mathlib.Core.Bool.{Bool, true, false}
+use mathlib.Core.Bool.{true, false}
 use mathlib.Core.List.{List, [], _∷_, _++_}
 use mathlib.Core.Path.{_≡_, refl}
 use Prim.Native.Nat.{ℕ, _-_, _/_, _%_, _^_}

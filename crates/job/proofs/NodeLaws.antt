@@ -1,29 +1,28 @@
 -- The reader's pass over the nodes: after the nodes below i, the struct has their records and the row is the first of 7 to 9 among them.
 use mathlib.Core.Bool.{Bool, true, false, cond, not, _&&_, _||_}
 use mathlib.Core.List.{List}
-use mathlib.Core.Path.{_≡_, refl, ap, sym, _∙_}
-use mathlib.Core.Logic.{_⊎_, inl, inr, ⊎-elim}
+use mathlib.Core.Path.{_≡_, refl, sym}
+use mathlib.Core.Logic.{⊎-elim}
 use Prim.Native.Nat.{ℕ, zero, suc, _+_, _≤_, _<_}
 use native.Mathlib.Omega.{arith}
-use borrow.Author.Tests.{eq-eqb, ne-eqb, eqb-true, eqb-false, lt-ltb}
 use lib.Dec.{eqb, ltb}
 use lib.ListN.{set}
+use borrow.Author.Tests.{ne-eqb, eqb-true, eqb-false, lt-ltb}
 use Rattle.base.specs.Range.{some}
 use Rattle.base.specs.Set.{has, wordBits}
-use Rattle.base.specs.Table.{tab}
-use Rattle.base.proofs.BoolLaws.{true-or-false, not-both, and-true}
+use Rattle.base.proofs.BoolLaws.{true-or-false, and-true}
 use Rattle.job.specs.Limits.{mostNodes}
 use Rattle.job.specs.Tree.{Tree, link, hasChild, leaf}
 use Rattle.job.specs.Bytes.{nodeCount, frameCount, parentAt, delayAt, memoryAt, rateAt, perNode, treeOf}
 use Rattle.job.specs.Refusal.{parentWrong, delayWrong, amountWrong, frameWrong}
-use Rattle.job.specs.Read.{structOf, bareTree, nodeAt, sooner, nodeRefusal, nodesRefusal, newNode, newFrame}
+use Rattle.job.specs.Read.{structOf, bareTree, nodeRefusal, newNode, newFrame}
+use Rattle.job.specs.Steps.{nodeAt, sooner}
 use Rattle.job.specs.declared.Job.{Job}
 use Rattle.job.specs.declared.Node.{Node}
-use Rattle.job.specs.declared.NodeMade.{NodeMade}
 use Rattle.job.specs.declared.NodeMade.the-variants.{Made, Refused}
 use Rattle.job.specs.declared.Frame.{Frame}
 use Rattle.job.specs.declared.FrameMade.the-variants.{TooLarge, Made as MadeFrame}
-use Rattle.job.proofs.TreeLaws.{some-link-none, some-link-more, link-is}
+use Rattle.job.proofs.TreeLaws.{some-link-none, some-link-more}
 use Rattle.job.proofs.ReadLaws.{fields-none, fields-more, perNode-in}
 
 -- ---- the records
@@ -36,7 +35,8 @@ treeTo s i =
       parent = perNode i (parentAt s);
       delay = perNode i (delayAt s);
       memory = perNode i (memoryAt s);
-      rate = perNode i (rateAt s) }
+      rate = perNode i (rateAt s);
+    }
 
 pub records-none : (s : List ℕ) → structOf (bareTree (nodeCount s)) (frameCount s) ≡ structOf (treeTo s 1) (frameCount s)
 records-none s =
@@ -46,7 +46,8 @@ records-none s =
       parent = fields-none (parentAt s) x;
       delay = fields-none (delayAt s) x;
       memory = fields-none (memoryAt s) x;
-      rate = fields-none (rateAt s) x }
+      rate = fields-none (rateAt s) x;
+    }
 
 -- node i's record is stored
 unfoldable pub stored : Job → ℕ → Node → Job
@@ -57,7 +58,8 @@ stored j i node =
       parent = set (j .parent) i (node .parent);
       delay = set (j .delay) i (node .delay);
       memory = set (j .memory) i (node .memory);
-      rate = set (j .rate) i (node .rate) }
+      rate = set (j .rate) i (node .rate);
+    }
 
 pub records-more : (s : List ℕ) (i : ℕ) → 0 < i → i < mostNodes
     → stored (structOf (treeTo s i) (frameCount s)) i (nodeAt s i) ≡ structOf (treeTo s (i + 1)) (frameCount s)
@@ -69,7 +71,8 @@ records-more s i h k =
       parent = fields-more (parentAt s) i h k x;
       delay = fields-more (delayAt s) i h k x;
       memory = fields-more (memoryAt s) i h k x;
-      rate = fields-more (rateAt s) i h k x }
+      rate = fields-more (rateAt s) i h k x;
+    }
 
 -- ---- the rows
 
@@ -87,10 +90,11 @@ rowTo t i =
 
 pub row-none : (t : Tree) → rowTo t 1 ≡ 0
 row-none t =
-    rw
-    (some-link-none (t .n) (λ k. parentWrong k (t .parent k)),
-     some-link-none (t .n) (λ k. delayWrong (leaf t k) (t .delay k)),
-     some-link-none (t .n) (λ k. amountWrong (t .memory k) (t .rate k)))
+    rw (
+      some-link-none (t .n) (λ k. parentWrong k (t .parent k)),
+      some-link-none (t .n) (λ k. delayWrong (leaf t k) (t .delay k)),
+      some-link-none (t .n) (λ k. amountWrong (t .memory k) (t .rate k)),
+    )
     refl
 
 -- of two nodes, or of some nodes and one more, the earlier row
@@ -116,14 +120,15 @@ pub row-more : (s : List ℕ) (i : ℕ) → 0 < i → i < nodeCount s
     → rowTo (treeOf s) (i + 1) ≡ sooner (rowTo (treeOf s) i) (nodeRefusal i (leaf (treeOf s) i) (nodeAt s i))
 row-more s i h k =
     let t = treeOf s in
-    rw
-    (some-link-more (t .n) (λ x. parentWrong x (t .parent x)) i h k,
-     some-link-more (t .n) (λ x. delayWrong (leaf t x) (t .delay x)) i h k,
-     some-link-more (t .n) (λ x. amountWrong (t .memory x) (t .rate x)) i h k,
-     perNode-in (t .n) (parentAt s) i h k,
-     perNode-in (t .n) (delayAt s) i h k,
-     perNode-in (t .n) (memoryAt s) i h k,
-     perNode-in (t .n) (rateAt s) i h k)
+    rw (
+      some-link-more (t .n) (λ x. parentWrong x (t .parent x)) i h k,
+      some-link-more (t .n) (λ x. delayWrong (leaf t x) (t .delay x)) i h k,
+      some-link-more (t .n) (λ x. amountWrong (t .memory x) (t .rate x)) i h k,
+      perNode-in (t .n) (parentAt s) i h k,
+      perNode-in (t .n) (delayAt s) i h k,
+      perNode-in (t .n) (memoryAt s) i h k,
+      perNode-in (t .n) (rateAt s) i h k,
+    )
     (join
     (some (λ x. link (t .n) x && parentWrong x (t .parent x)) i)
     (some (λ x. link (t .n) x && delayWrong (leaf t x) (t .delay x)) i)

@@ -1,8 +1,8 @@
 -- Laws of the struct that holds a job: what a store does to a field, and that the struct holds the tree.
 use mathlib.Core.List.{List}
-use mathlib.Core.Path.{_≡_, refl, ap, sym, _∙_, fun-ext}
-use mathlib.Core.Logic.{_⊎_, inl, inr, ⊎-elim}
-use Prim.Native.Nat.{ℕ, zero, suc, _+_, _*_, _≤_, _<_}
+use mathlib.Core.Path.{_≡_, refl, sym, _∙_, fun-ext}
+use mathlib.Core.Logic.{⊎-elim}
+use Prim.Native.Nat.{ℕ, _+_, _*_, _≤_, _<_}
 use native.Mathlib.Omega.{arith}
 use lib.ListN.{length, getD, set, replicate, length-set}
 use lib.Seq.{ext-getD, getD-set-same, getD-set-other}
@@ -12,7 +12,8 @@ use Rattle.base.proofs.TableLaws.{length-tab, getD-tab, getD-tab-past, tab-cong
 use Rattle.job.specs.Limits.{mostNodes}
 use Rattle.job.specs.Tree.{Tree, link}
 use Rattle.job.specs.Bytes.{headerWidth, recordWidth, frameWidth, recordPlace, framesPlace, nodeCount, frameCount, wantedLength, perNode}
-use Rattle.job.specs.Read.{Sized, structOf, treeIn}
+use Rattle.job.specs.Read.{structOf, treeIn}
+use Rattle.job.specs.Steps.{Sized}
 use Rattle.job.proofs.TreeLaws.{link-is, link-past}
 
 -- ---- a field of the nodes 1 to n-1
@@ -34,9 +35,9 @@ pub perNode-other : (i : ℕ) (f : ℕ → ℕ) (j : ℕ) → (j ≡ i → ⊥) 
 perNode-other i f j ne =
     ⊎-elim
     (λ (h : j < i). ⊎-elim
-        (λ (p : 0 < j). perNode-in (i + 1) f j p (omega arith) ∙ sym (perNode-in i f j p h))
-        (λ (p : j ≤ 0). let e : j ≡ 0 = omega arith in rw e (perNode-root (i + 1) f ∙ sym (perNode-root i f)))
-        (lt-or-le 0 j))
+    (λ (p : 0 < j). perNode-in (i + 1) f j p (omega arith) ∙ sym (perNode-in i f j p h))
+    (λ (p : j ≤ 0). let e : j ≡ 0 = omega arith in rw e (perNode-root (i + 1) f ∙ sym (perNode-root i f)))
+    (lt-or-le 0 j))
     (λ (h : i ≤ j). perNode-past (i + 1) f j (omega arith) ∙ sym (perNode-past i f j h))
     (lt-or-le j i)
 
@@ -45,19 +46,20 @@ pub fields-none : (f : ℕ → ℕ) → tab (λ i. 0) mostNodes ≡ tab (perNode
 fields-none f =
     tab-cong (λ i. 0) (perNode 1 f) mostNodes
     (λ j h. ⊎-elim
-        (λ (p : 0 < j). sym (perNode-past 1 f j p))
-        (λ (p : j ≤ 0). let e : j ≡ 0 = omega arith in rw e (sym (perNode-root 1 f)))
-        (lt-or-le 0 j))
+    (λ (p : 0 < j). sym (perNode-past 1 f j p))
+    (λ (p : j ≤ 0). let e : j ≡ 0 = omega arith in rw e (sym (perNode-root 1 f)))
+    (lt-or-le 0 j))
 
 -- node i's value is stored at place i
 pub fields-more : (f : ℕ → ℕ) (i : ℕ) → 0 < i → i < mostNodes → set (tab (perNode i f) mostNodes) i (f i) ≡ tab (perNode (i + 1) f) mostNodes
 fields-more f i h k =
     ext-getD 0 _ _ (length-set (tab (perNode i f) mostNodes) i (f i) ∙ long i ∙ sym (long (i + 1)))
     (λ j q. let l : j < mostNodes = omega (arith, length-set (tab (perNode i f) mostNodes) i (f i), long i) in
-        place j l (native.Mathlib.Decide.ℕ-discrete j i))
+    place j l (native.Mathlib.Decide.ℕ-discrete j i))
   where
     long : (n : ℕ) → length (tab (perNode n f) mostNodes) ≡ mostNodes
     long n = length-tab (perNode n f) mostNodes
+
     place : (j : ℕ) → j < mostNodes → Dec (j ≡ i)
         → getD (set (tab (perNode i f) mostNodes) i (f i)) j 0 ≡ getD (tab (perNode (i + 1) f) mostNodes) j 0
     place j l (yes e) =
@@ -75,9 +77,9 @@ fields-more f i h k =
 field-back : (f : ℕ → ℕ) → ((i : ℕ) → mostNodes ≤ i → f i ≡ 0) → (λ i. getD (tab f mostNodes) i 0) ≡ f
 field-back f past =
     fun-ext (λ i. ⊎-elim
-        (λ (h : i < mostNodes). getD-tab f mostNodes i h)
-        (λ (h : mostNodes ≤ i). getD-tab-past f mostNodes i h ∙ sym (past i h))
-        (lt-or-le i mostNodes))
+    (λ (h : i < mostNodes). getD-tab f mostNodes i h)
+    (λ (h : mostNodes ≤ i). getD-tab-past f mostNodes i h ∙ sym (past i h))
+    (lt-or-le i mostNodes))
 
 -- the fields have nothing past the last place of the arrays
 pub record Short (t : Tree) : Type 0 where
@@ -93,7 +95,8 @@ struct-holds t frames h =
       parent = field-back (t .parent) (h .parents) x;
       delay = field-back (t .delay) (h .delays) x;
       memory = field-back (t .memory) (h .memories) x;
-      rate = field-back (t .rate) (h .rates) x }
+      rate = field-back (t .rate) (h .rates) x;
+    }
 
 pub zeros-are : tab (λ i. 0) mostNodes ≡ replicate mostNodes 0
 unfolding tab

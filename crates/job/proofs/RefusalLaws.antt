@@ -1,21 +1,22 @@
 -- Laws of the refusal of a job: the table in parts, as the reader goes through it; what an accepted job has; and that nothing else is needed.
-use mathlib.Core.Bool.{Bool, true, false, cond, not, _&&_, _||_}
+use mathlib.Core.Bool.{Bool, true, false, cond, not, _&&_}
 use mathlib.Core.List.{List}
 use mathlib.Core.Path.{_≡_, refl, ap, sym, _∙_}
-use mathlib.Core.Logic.{_⊎_, inl, inr, ⊎-elim}
+use mathlib.Core.Logic.{⊎-elim}
 use Prim.Native.Nat.{ℕ, _≤_, _<_}
 use native.Mathlib.Omega.{arith}
-use borrow.Author.Tests.{eq-eqb, ne-eqb, eqb-true, ltb-false, le-ltb, lt-ltb, not-false}
 use lib.Dec.{eqb, ltb}
 use lib.ListN.{length}
+use borrow.Author.Tests.{eq-eqb, ne-eqb, eqb-true, ltb-false, not-false}
 use Rattle.base.specs.Range.{some}
-use Rattle.base.proofs.BoolLaws.{true-or-false, not-both, otherwise, or-no-left, or-no-right, and-no-right}
-use Rattle.base.proofs.RangeLaws.{none-passes, all-fail}
+use Rattle.base.proofs.BoolLaws.{true-or-false, not-both, or-no-left, or-no-right}
+use Rattle.base.proofs.RangeLaws.{none-passes}
 use Rattle.job.specs.Limits.{fewestNodes, mostNodes, fewestFrames, mostFrames, longestDelay, greatestMemory, greatestRate, greatestFrame}
-use Rattle.job.specs.Tree.{Tree, JobData, TreeWithin, JobWithin, link, child, hasChild, leaf}
+use Rattle.job.specs.Tree.{Tree, TreeWithin, JobWithin, link, child, hasChild, leaf}
 use Rattle.job.specs.Bytes.{markRLY, versionOne, headerWidth, mark, version, nodeCount, frameCount, frameAt, wantedLength, treeOf, jobOf}
 use Rattle.job.specs.Refusal.{outside, parentWrong, delayWrong, amountWrong, frameWrong, someNode, refusal}
-use Rattle.job.specs.Read.{structOf, refusedWith, refusedOr, readOf, parentsOf, treeIn, orElse, headRefusal, sizeRefusal, nodesRefusal, restRefusal, Sized}
+use Rattle.job.specs.Read.{structOf, refusedWith, refusedOr, readOf, treeIn, sizeRefusal}
+use Rattle.job.specs.Steps.{parentsOf, orElse, headRefusal, nodesRefusal, restRefusal, Sized}
 use Rattle.job.specs.declared.Job.{Job}
 use Rattle.job.specs.declared.Reading.{Reading}
 use Rattle.job.proofs.TreeLaws.{link-in}
@@ -39,8 +40,8 @@ lengthRefusal s = cond (not (eqb (length s) (wantedLength s))) 6 0
 parts : (a b c d e f g h i j : Bool)
     → cond a 1 (cond b 2 (cond c 3 (cond d 4 (cond e 5 (cond f 6 (cond g 7 (cond h 8 (cond i 9 (cond j 10 0)))))))))
     ≡ orElse (cond a 1 (cond b 2 (cond c 3 0)))
-      (orElse (cond d 4 (cond e 5 0))
-      (orElse (cond f 6 0) (orElse (cond g 7 (cond h 8 (cond i 9 0))) (cond j 10 0))))
+    (orElse (cond d 4 (cond e 5 0))
+    (orElse (cond f 6 0) (orElse (cond g 7 (cond h 8 (cond i 9 0))) (cond j 10 0))))
 parts true b c d e f g h i j = refl
 parts false true c d e f g h i j = refl
 parts false false true d e f g h i j = refl
@@ -126,7 +127,8 @@ tree-within t a b h =
       leaf-delays = λ i l f. delay-leaf (leaf t i) (t .delay i) f (each-node t (λ k. delayWrong (leaf t k) (t .delay k)) d i l);
       inner-delays = λ i l f. delay-inner (leaf t i) (t .delay i) f (each-node t (λ k. delayWrong (leaf t k) (t .delay k)) d i l);
       memories = λ i l. ltb-false greatestMemory (t .memory i) (or-no-left _ (ltb greatestRate (t .rate i)) (each-node t (λ k. amountWrong (t .memory k) (t .rate k)) m i l));
-      rates = λ i l. ltb-false greatestRate (t .rate i) (or-no-right (ltb greatestMemory (t .memory i)) _ (each-node t (λ k. amountWrong (t .memory k) (t .rate k)) m i l)) }
+      rates = λ i l. ltb-false greatestRate (t .rate i) (or-no-right (ltb greatestMemory (t .memory i)) _ (each-node t (λ k. amountWrong (t .memory k) (t .rate k)) m i l));
+    }
   where
     parent-lower : (i p : ℕ) → parentWrong i p ≡ false → p < i
     parent-lower i p e = borrow.Author.Tests.ltb-true p i (not-false (ltb p i) e)
@@ -150,7 +152,8 @@ accepted-sized s h =
       nodes-to = n2;
       frames-from = f1;
       frames-to = f2;
-      long = eqb-true (length s) (wantedLength s) (not-false (eqb (length s) (wantedLength s)) (cond-first _ 6 0 (omega arith) l)) }
+      long = eqb-true (length s) (wantedLength s) (not-false (eqb (length s) (wantedLength s)) (cond-first _ 6 0 (omega arith) l));
+    }
 
 -- an accepted job is within the limits: every field's range, and each parent lower than its child
 pub accepted-within : (s : List ℕ) → refusal s ≡ 0 → JobWithin (jobOf s)
@@ -164,7 +167,8 @@ accepted-within s h =
       tree = tree-within (treeOf s) (z .nodes-from) (z .nodes-to) x;
       frames-from = z .frames-from;
       frames-to = z .frames-to;
-      frames = λ m k. ltb-false greatestFrame (frameAt s m) (none-passes (λ i. frameWrong (frameAt s i)) (frameCount s) (cond-first _ 10 0 (omega arith) y) m k) }
+      frames = λ m k. ltb-false greatestFrame (frameAt s m) (none-passes (λ i. frameWrong (frameAt s i)) (frameCount s) (cond-first _ 10 0 (omega arith) y) m k);
+    }
 
 -- ---- what the reader returns, and where
 
@@ -212,7 +216,8 @@ read-holds s h =
       parents = λ i q. perNode-past _ _ i (omega arith);
       delays = λ i q. perNode-past _ _ i (omega arith);
       memories = λ i q. perNode-past _ _ i (omega arith);
-      rates = λ i q. perNode-past _ _ i (omega arith) })
+      rates = λ i q. perNode-past _ _ i (omega arith);
+    })
 
 -- what a caller learns from a reading whose refusal is 0
 pub read-is : (s : List ℕ) (r : Reading) → r ≡ readOf s → r .refusal ≡ 0 → (refusal s ≡ 0) × (r .job ≡ structOf (treeOf s) (frameCount s))

@@ -1,12 +1,11 @@
 -- Laws of frames and slots: T, H and the length of a plan, of any job within the limits.
-use mathlib.Core.Bool.{Bool, true, false}
-use mathlib.Core.Path.{_≡_, refl, ap, sym, _∙_}
-use mathlib.Core.Logic.{_⊎_, inl, inr, ⊎-elim}
-use Prim.Native.Nat.{ℕ, zero, suc, _+_, _-_, _*_, _≤_, _<_, min, max}
+use mathlib.Core.Bool.{true}
+use mathlib.Core.Path.{_≡_, refl, _∙_}
+use mathlib.Core.Logic.{⊎-elim}
+use Prim.Native.Nat.{ℕ, suc, _+_, _-_, _*_, _≤_, _<_, min}
 use native.Mathlib.Nat.{mul-le-mul, mul-le-mul-right, le-trans}
-use native.Mathlib.Numerals.{add-one}
 use native.Mathlib.Omega.{arith}
-use Rattle.base.specs.Range.{sum, fold, greatestOver}
+use Rattle.base.specs.Range.{sum, greatestOver}
 use Rattle.base.specs.Set.{has, wordBits}
 use Rattle.base.proofs.BoolLaws.{not-both, lt-or-le}
 use Rattle.base.proofs.RangeLaws.{sum-le, sum-bound, sum-cong, fold-cong, fold-skip, greatestOver-under, greatestOver-above}
@@ -71,8 +70,8 @@ leaf-link t w i h =
     ⊎-elim
     (λ (p : 0 < i). link-is (t .n) i p (leaf-in t i h))
     (λ (p : i ≤ 0).
-        let e : i ≡ 0 = omega arith in
-        absurd (not-both (root-has-child t w) (rw e at (leaf-childless t i h))))
+    let e : i ≡ 0 = omega arith in
+    absurd (not-both (root-has-child t w) (rw e at (leaf-childless t i h))))
     (lt-or-le 0 i)
 
 pub greatestDelay-le : (t : Tree) → TreeWithin t → greatestDelay t ≤ longestDelay

@@ -1,17 +1,17 @@
 -- Laws of trees: links, leaves and inner nodes, what is below what.
-use mathlib.Core.Bool.{Bool, true, false, cond, not, _&&_, _||_}
+use mathlib.Core.Bool.{Bool, true, false, not, _&&_, _||_}
 use mathlib.Core.Path.{_≡_, refl, ap, sym, _∙_}
 use mathlib.Core.Logic.{_⊎_, inl, inr, ⊎-elim}
-use Prim.Native.Nat.{ℕ, zero, suc, _+_, _-_, _≤_, _<_}
+use mathlib.Core.List.{List}
+use Prim.Native.Nat.{ℕ, zero, suc, _+_, _≤_, _<_}
 use native.Mathlib.Numerals.{add-one}
 use native.Mathlib.Omega.{arith}
-use borrow.Author.Tests.{lt-ltb, le-ltb, ltb-true, eq-eqb, eqb-true, eqb-false}
 use lib.Dec.{ltb, eqb}
 use lib.ListN.{getD}
-use mathlib.Core.List.{List}
+use borrow.Author.Tests.{lt-ltb, le-ltb, ltb-true, eq-eqb, eqb-true}
 use Rattle.base.specs.Range.{some}
-use Rattle.base.proofs.BoolLaws.{true-or-false, not-both, otherwise, and-left, and-right, and-true, and-no-right, or-right, or-cases, iff-same, lt-or-le}
-use Rattle.base.proofs.RangeLaws.{some-passes, which-passes, none-passes, all-fail, some-cong}
+use Rattle.base.proofs.BoolLaws.{true-or-false, not-both, otherwise, and-left, and-right, and-no-right, or-right, or-cases, lt-or-le}
+use Rattle.base.proofs.RangeLaws.{some-passes, which-passes}
 use Rattle.job.specs.Tree.{Tree, TreeWithin, link, child, hasChild, leaf, inner, meets, below}
 
 -- ---- links
@@ -228,8 +228,8 @@ module _ (t : Tree) (ordered : (i : ℕ) → link (t .n) i ≡ true → t .paren
       ⊎-elim
       (λ (k : leaf t c ≡ true). (c, k, child-below c i p q e))
       (λ (k : hasChild t c ≡ true).
-          let (x, f, g) = leaf-by b c (omega arith) k in
-          (x, f, below-trans x c i g (child-below c i p q e)))
+      let (x, f, g) = leaf-by b c (omega arith) k in
+      (x, f, below-trans x c i g (child-below c i p q e)))
       (leaf-or-child t c q)
 
   pub inner-has-leaf : (i : ℕ) → hasChild t i ≡ true → (l : ℕ) × (leaf t l ≡ true) × (below t l i ≡ true)

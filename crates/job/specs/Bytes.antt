@@ -76,7 +76,8 @@ treeOf s =
       parent = perNode n (parentAt s);
       delay = perNode n (delayAt s);
       memory = perNode n (memoryAt s);
-      rate = perNode n (rateAt s) }
+      rate = perNode n (rateAt s);
+    }
 
 abbrev pub jobOf : List ℕ → JobData
 jobOf s = record { tree = treeOf s; M = frameCount s; frame = frameAt s }

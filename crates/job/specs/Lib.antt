@@ -3,3 +3,4 @@ pub mod Tree
 pub mod Bytes
 pub mod Refusal
 pub mod Read
+pub mod Steps

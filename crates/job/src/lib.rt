@@ -13,7 +13,8 @@ ghost use Rattle.job.specs.Tree as tree;
 ghost use Rattle.job.specs.Tree.{hasChild, child, leaf, below, planLength, TreeWithin};
 ghost use Rattle.job.specs.Bytes.{recordPlace, nodeCount, frameCount, frameAt, treeOf, jobOf};
 ghost use Rattle.job.specs.Refusal.{delayWrong, frameWrong, refusal};
-ghost use Rattle.job.specs.Read.{limits, newFrame, newNode, newJob, refusedWith, structOf, bareTree, treeIn, jobIn, nodeAt, parentsOf, refusedOr, headRefusal, nodesRefusal, restRefusal, readOf, sooner, Sized};
+ghost use Rattle.job.specs.Read.{limits, newFrame, newNode, newJob, refusedWith, structOf, bareTree, treeIn, jobIn, refusedOr, readOf};
+ghost use Rattle.job.specs.Steps.{nodeAt, parentsOf, headRefusal, nodesRefusal, restRefusal, sooner, Sized};
 
 // A frame's size in bytes.
 pub struct Frame {
@@ -66,7 +67,9 @@ fn delay_wrong(leaf: bool, delay: usize) -> bool
 
 impl Node {
     pub const LONGEST_DELAY: usize = 4096;
+
     pub const GREATEST_MEMORY: u64 = 1_099_511_627_775;
+
     pub const GREATEST_RATE: u64 = Node::GREATEST_MEMORY;
     // Bytes that a record takes in a job.
     pub const WIDTH: usize = 19;
@@ -131,11 +134,15 @@ fn refused(refusal: u64) -> Reading
 
 impl Job {
     pub const FEWEST_NODES: usize = 2;
+
     pub const MOST_NODES: usize = 64;
+
     pub const FEWEST_FRAMES: usize = 1;
+
     pub const MOST_FRAMES: usize = 65_536;
     // The mark `RLY` as a number, and the version.
     pub const MARK: u64 = 0x52_4c_59;
+
     pub const VERSION: u64 = 1;
     // Bytes before the first record.
     pub const HEADER: usize = 10;
@@ -388,7 +395,10 @@ fn read_nodes(s: &[u8], job: Job, inner: u64) -> Reading
     if refusal != 0 {
         return refused(refusal);
     }
-    Reading { refusal: 0, job: out }
+    Reading {
+        refusal: 0,
+        job: out,
+    }
 }
 
 // Whether some frame is too large.

@@ -1,10 +1,6 @@
 use Rattle.base.proofs.SetLaws.{has-both}
-use borrow.Author.Needs.{needs}
-use native.Mathlib.Omega.{arith}
 use Rattle.base.proofs.common.Statement.{statement}
 use Rattle.base.proofs.common.Tie as tie
-use Rattle.base.proofs.common.Reads as reads
-use Rattle.base.proofs.common.Lts as lts
 
 returns : tie.Need-returns
 returns c = λ j. has-both _ _ j

@@ -1,11 +1,8 @@
+use native.Mathlib.Omega.{arith}
 use lib.Count.{ones-le}
 use Rattle.base.proofs.SetLaws.{count-is}
-use borrow.Author.Needs.{needs}
-use native.Mathlib.Omega.{arith}
 use Rattle.base.proofs.count.Statement.{statement}
 use Rattle.base.proofs.count.Tie as tie
-use Rattle.base.proofs.count.Reads as reads
-use Rattle.base.proofs.count.Lts as lts
 
 cast-result : tie.Need-cast-result
 cast-result c = omega (arith, ones-le 64 (c .args .s) (omega arith))

@@ -1,11 +1,8 @@
+use native.Mathlib.Omega.{arith}
 use lib.Count.{trailing-le}
 use Rattle.base.proofs.SetLaws.{lowest-is}
-use borrow.Author.Needs.{needs}
-use native.Mathlib.Omega.{arith}
 use Rattle.base.proofs.lowest.Statement.{statement}
 use Rattle.base.proofs.lowest.Tie as tie
-use Rattle.base.proofs.lowest.Reads as reads
-use Rattle.base.proofs.lowest.Lts as lts
 
 cast-result : tie.Need-cast-result
 cast-result c = omega (arith, trailing-le 64 (c .args .s))

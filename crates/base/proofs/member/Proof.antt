@@ -1,12 +1,10 @@
 use mathlib.Core.Path.{sym, refl}
-use Rattle.base.specs.Set.{has}
-use Rattle.base.proofs.SetLaws.{has-past}
 use native.Mathlib.Omega.{arith}
 use borrow.Author.Needs.{needs}
+use Rattle.base.specs.Set.{has}
+use Rattle.base.proofs.SetLaws.{has-past}
 use Rattle.base.proofs.member.Statement.{statement}
 use Rattle.base.proofs.member.Tie as tie
-use Rattle.base.proofs.member.Reads as reads
-use Rattle.base.proofs.member.Lts as lts
 
 shr-result : tie.Need-shr-result
 shr-result c = search needs

@@ -1,12 +1,9 @@
-use Rattle.base.specs.Number.{number}
 use native.Mathlib.Nat.{add-zero}
 use native.Mathlib.Omega.{arith}
 use borrow.Author.Needs.{needs}
+use Rattle.base.specs.Number.{number}
 use Rattle.base.proofs.number4_at.Statement.{statement}
 use Rattle.base.proofs.number4_at.Tie as tie
-use Rattle.base.proofs.number4_at.Reads as reads
-use Rattle.base.proofs.number4_at.Lts as lts
-use Rattle.base.proofs.wide.Reads as wide-reads
 
 shared-slice-read-wide : tie.Need-shared-slice-read-wide
 shared-slice-read-wide c = search needs

@@ -1,15 +1,12 @@
-use Rattle.base.specs.Number.{number}
+use mathlib.Core.Path.{_≡_}
+use Prim.Native.Nat.{ℕ, _≤_, _<_, _-_, _^_}
 use native.Mathlib.Numerals.{add-one}
 use native.Mathlib.Nat.{pow-le-pow-right, pow-suc}
-use Prim.Native.Nat.{ℕ, _≤_, _<_, _-_, _^_}
-use mathlib.Core.Path.{_≡_}
-use borrow.Author.Needs.{needs}
 use native.Mathlib.Omega.{arith}
+use borrow.Author.Needs.{needs}
+use Rattle.base.specs.Number.{number}
 use Rattle.base.proofs.number_at.Statement.{statement}
 use Rattle.base.proofs.number_at.Tie as tie
-use Rattle.base.proofs.number_at.Reads as reads
-use Rattle.base.proofs.number_at.Lts as lts
-use Rattle.base.proofs.wide.Reads as wide-reads
 
 abbrev Inv-loop : tie.InvT-loop
 Inv-loop s place width r₀ i₀ r i = (i ≤ width) × ((r ≡ number s place i) × (r < 256 ^ i))
@@ -49,10 +46,13 @@ loop-less c = search needs
 loop-again : tie.Need-loop-again Inv-loop μ-loop
 unfolding number
 loop-again c =
-    let s = c .before .before .before .loop in
-    (search needs,
-     (rw (add-one, ← (s .inv .1 .0)) (omega arith),
-      rw (add-one, pow-suc) (omega arith)))
+    let s = c .before .before .before .loop in (
+      search needs,
+      (
+        rw (add-one, ← (s .inv .1 .0)) (omega arith),
+        rw (add-one, pow-suc) (omega arith),
+      ),
+    )
 
 returns : tie.Need-returns Inv-loop μ-loop
 returns c =

@@ -1,10 +1,7 @@
-use Rattle.base.proofs.SetLaws.{has-with, has-without}
-use native.Mathlib.Omega.{arith}
 use borrow.Author.Needs.{needs}
+use Rattle.base.proofs.SetLaws.{has-with, has-without}
 use Rattle.base.proofs.with.Statement.{statement}
 use Rattle.base.proofs.with.Tie as tie
-use Rattle.base.proofs.with.Reads as reads
-use Rattle.base.proofs.with.Lts as lts
 
 shl-result : tie.Need-shl-result
 shl-result c = search needs

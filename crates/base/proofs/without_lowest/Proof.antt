@@ -1,12 +1,10 @@
 use mathlib.Core.Path.{refl}
-use lib.Bits.{and-le-r}
-use Rattle.base.proofs.SetLaws.{has-cleared, has-none}
 use native.Mathlib.Omega.{arith}
+use lib.Bits.{and-le-r}
 use borrow.Author.Needs.{needs}
+use Rattle.base.proofs.SetLaws.{has-cleared, has-none}
 use Rattle.base.proofs.without_lowest.Statement.{statement}
 use Rattle.base.proofs.without_lowest.Tie as tie
-use Rattle.base.proofs.without_lowest.Reads as reads
-use Rattle.base.proofs.without_lowest.Lts as lts
 
 returns : tie.Need-returns
 returns c = (λ j. rw (c .if1 .taken, has-none) refl, omega arith)

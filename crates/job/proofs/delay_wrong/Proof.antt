@@ -1,10 +1,5 @@
-use borrow.Author.Tests.{lt-ltb, le-ltb}
-use borrow.Author.Needs.{needs}
-use native.Mathlib.Omega.{arith}
 use Rattle.job.proofs.delay_wrong.Statement.{statement}
 use Rattle.job.proofs.delay_wrong.Tie as tie
-use Rattle.job.proofs.delay_wrong.Reads as reads
-use Rattle.job.proofs.delay_wrong.Lts as lts
 
 returns : tie.Need-returns
 returns c = rw (c .if1 .taken)

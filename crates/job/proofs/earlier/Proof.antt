@@ -1,10 +1,7 @@
-use borrow.Author.Tests.{lt-ltb, le-ltb, eq-eqb, ne-eqb}
-use borrow.Author.Needs.{needs}
 use native.Mathlib.Omega.{arith}
+use borrow.Author.Tests.{eq-eqb, ne-eqb}
 use Rattle.job.proofs.earlier.Statement.{statement}
 use Rattle.job.proofs.earlier.Tie as tie
-use Rattle.job.proofs.earlier.Reads as reads
-use Rattle.job.proofs.earlier.Lts as lts
 
 returns : tie.Need-returns
 returns c = simp (eq-eqb _ _ (c .if1 .taken))

@@ -1,11 +1,7 @@
 use mathlib.Core.Path.{refl}
 use Rattle.base.specs.Table.{tab}
-use borrow.Author.Needs.{needs}
-use native.Mathlib.Omega.{arith}
 use Rattle.job.proofs.empty.Statement.{statement}
 use Rattle.job.proofs.empty.Tie as tie
-use Rattle.job.proofs.empty.Reads as reads
-use Rattle.job.proofs.empty.Lts as lts
 
 returns : tie.Need-returns
 unfolding tab

@@ -1,12 +1,8 @@
 use mathlib.Core.Path.{sym, _∙_, refl}
 use borrow.Author.Tests.{eq-eqb, ne-eqb}
-use native.Mathlib.Omega.{arith}
 use borrow.Author.Needs.{needs}
 use Rattle.job.proofs.joins.Statement.{statement}
 use Rattle.job.proofs.joins.Tie as tie
-use Rattle.job.proofs.joins.Reads as reads
-use Rattle.job.proofs.joins.Lts as lts
-use Rattle.base.proofs.member.Reads as member-reads
 
 returns : tie.Need-returns
 returns c = rw (eq-eqb _ _ (c .if1 .taken)) refl

@@ -1,18 +1,12 @@
+use Prim.Native.Nat.{_<_, max}
+use native.Mathlib.Omega.{arith}
+use lib.ListN.{getD}
+use borrow.Author.Needs.{needs}
 use Rattle.base.specs.Set.{has, wordBits}
 use Rattle.base.specs.Range.{first}
-use Prim.Native.Nat.{_<_}
 use Rattle.base.proofs.SetLaws.{Walked, walk-start, walk-next, walk-done, first-lt}
-use lib.ListN.{getD}
-use Prim.Native.Nat.{max}
-use borrow.Author.Needs.{needs}
-use native.Mathlib.Omega.{arith}
 use Rattle.job.proofs.longest.Statement.{statement}
 use Rattle.job.proofs.longest.Tie as tie
-use Rattle.job.proofs.longest.Reads as reads
-use Rattle.job.proofs.longest.Lts as lts
-use Rattle.base.proofs.lowest.Reads as lowest-reads
-use Rattle.base.proofs.without_lowest.Reads as without-lowest-reads
-use Rattle.job.proofs.greater.Reads as greater-reads
 
 abbrev Inv-loop : tie.InvT-loop
 Inv-loop set delay acc₀ rest₀ acc rest = Walked (λ g i. max g (getD delay i 0)) 0 set rest acc

@@ -1,24 +1,17 @@
-use Rattle.job.proofs.RefusalLaws.{refusedOr-number, sizes-in, read-refused, head-long, at-head, at-size, at-length, at-rest}
-use Rattle.job.specs.declared.Reading.{Reading}
-use Rattle.job.specs.declared.Job.{Job}
-use Rattle.job.specs.Read.{structOf, bareTree, refusedWith, refusedOr, headRefusal, sizeRefusal, newJob}
-use Rattle.job.specs.Bytes.{nodeCount, frameCount, wantedLength, frameWidth, treeOf}
-use Rattle.job.specs.Limits.{fewestNodes, mostNodes, fewestFrames, mostFrames}
-use borrow.Author.Tests.{ne-eqb}
 use mathlib.Core.Path.{_≡_, refl, ap, sym, _∙_}
 use Prim.Native.Nat.{ℕ, _+_, _*_, _≤_}
 use native.Mathlib.Omega.{arith}
+use borrow.Author.Tests.{ne-eqb}
 use borrow.Author.Needs.{needs}
+use Rattle.job.proofs.RefusalLaws.{refusedOr-number, sizes-in, read-refused, head-long, at-head, at-size, at-length, at-rest}
+use Rattle.job.specs.declared.Reading.{Reading}
+use Rattle.job.specs.declared.Job.{Job}
+use Rattle.job.specs.Read.{structOf, bareTree, refusedWith, refusedOr, sizeRefusal, newJob}
+use Rattle.job.specs.Steps.{headRefusal}
+use Rattle.job.specs.Bytes.{nodeCount, frameCount, wantedLength, treeOf}
+use Rattle.job.specs.Limits.{fewestNodes, mostNodes, fewestFrames, mostFrames}
 use Rattle.job.proofs.read.Statement.{statement}
 use Rattle.job.proofs.read.Tie as tie
-use Rattle.job.proofs.read.Reads as reads
-use Rattle.job.proofs.read.Lts as lts
-use Rattle.base.proofs.number_at.Reads as number-at-reads
-use Rattle.job.proofs.Job.new.Reads as new-reads
-use Rattle.job.proofs.head_refusal.Reads as head-refusal-reads
-use Rattle.job.proofs.read_rest.Reads as read-rest-reads
-use Rattle.job.proofs.record_place.Reads as record-place-reads
-use Rattle.job.proofs.refused.Reads as refused-reads
 
 -- past the first test rows 1 to 3 don't apply
 head-none : (c : tie.Else1) → headRefusal (c .before .before .before .args .s .now) ≡ 0

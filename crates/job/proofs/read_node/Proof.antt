@@ -1,17 +1,12 @@
-use Rattle.job.proofs.ReadLaws.{record-in}
-use Rattle.job.specs.Bytes.{recordWidth, parentAt, delayAt, memoryAt, rateAt}
-use lib.ListN.{length}
 use mathlib.Core.Path.{refl, _∙_}
 use Prim.Native.Nat.{_+_, _≤_}
 use native.Mathlib.Omega.{arith}
+use lib.ListN.{length}
 use borrow.Author.Needs.{needs}
+use Rattle.job.proofs.ReadLaws.{record-in}
+use Rattle.job.specs.Bytes.{recordWidth, parentAt, delayAt, memoryAt, rateAt}
 use Rattle.job.proofs.read_node.Statement.{statement}
 use Rattle.job.proofs.read_node.Tie as tie
-use Rattle.job.proofs.read_node.Reads as reads
-use Rattle.job.proofs.read_node.Lts as lts
-use Rattle.base.proofs.number_at.Reads as number-at-reads
-use Rattle.job.proofs.Node.new.Reads as new-reads
-use Rattle.job.proofs.record_place.Reads as record-place-reads
 
 record-place-requires : tie.Need-record-place-requires
 record-place-requires c κs = search needs

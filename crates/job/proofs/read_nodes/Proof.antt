@@ -1,26 +1,18 @@
-use Rattle.job.specs.Read.{nodeAt, nodeRefusal, nodesRefusal, sooner}
-use Rattle.job.specs.Tree.{leaf}
-use borrow.Author.Tests.{ne-eqb}
 use mathlib.Core.Bool.{not}
-use Rattle.job.proofs.NodeLaws.{treeTo, records-none, records-more, stored, rowTo, row-none, row-more, sooner-none, sooner-some, made-is, refused-is, leaf-of-set}
-use Rattle.job.specs.declared.Job.{Job}
-use Rattle.job.specs.Read.{structOf}
-use Rattle.job.specs.Bytes.{nodeCount, frameCount, treeOf}
-use lib.ListN.{length, set}
 use mathlib.Core.Logic.{⊎-elim}
 use mathlib.Core.Path.{_≡_, refl, ap, sym, _∙_}
-use mathlib.Core.List.{List}
-use Prim.Native.Nat.{ℕ, _+_, _-_, _≤_, _<_}
-use borrow.Author.Needs.{needs}
+use Prim.Native.Nat.{ℕ, _-_, _≤_, _<_}
 use native.Mathlib.Omega.{arith}
+use borrow.Author.Tests.{ne-eqb}
+use borrow.Author.Needs.{needs}
+use Rattle.job.specs.Read.{nodeRefusal, structOf}
+use Rattle.job.specs.Steps.{nodeAt, nodesRefusal, sooner}
+use Rattle.job.specs.Tree.{leaf}
+use Rattle.job.proofs.NodeLaws.{treeTo, records-none, records-more, stored, rowTo, row-none, row-more, sooner-none, sooner-some, made-is, refused-is, leaf-of-set}
+use Rattle.job.specs.declared.Job.{Job}
+use Rattle.job.specs.Bytes.{nodeCount, frameCount, treeOf}
 use Rattle.job.proofs.read_nodes.Statement.{statement}
 use Rattle.job.proofs.read_nodes.Tie as tie
-use Rattle.job.proofs.read_nodes.Reads as reads
-use Rattle.job.proofs.read_nodes.Lts as lts
-use Rattle.base.proofs.member.Reads as member-reads
-use Rattle.job.proofs.earlier.Reads as earlier-reads
-use Rattle.job.proofs.read_node.Reads as read-node-reads
-use Rattle.job.proofs.refused.Reads as refused-reads
 
 abbrev Inv-loop : tie.InvT-loop
 Inv-loop s inner nodes out₀ refusal₀ i₀ out refusal i =
@@ -33,11 +25,16 @@ abbrev μ-loop : tie.MeasureT-loop
 loop-holds : tie.Need-loop-holds Inv-loop μ-loop
 loop-holds c =
     let s = c .before .args .s .now in
-    let e = c .before .pre .1 .0 in
-    (ap (λ (j : Job). j .nodes) e,
-     (omega arith,
-      (omega (arith, c .before .pre .0 .nodes-from, ap (λ (j : Job). j .nodes) e),
-       (sym (row-none (treeOf s)), λ q. e ∙ records-none s))))
+    let e = c .before .pre .1 .0 in (
+      ap (λ (j : Job). j .nodes) e,
+      (
+        omega arith,
+        (
+          omega (arith, c .before .pre .0 .nodes-from, ap (λ (j : Job). j .nodes) e),
+          (sym (row-none (treeOf s)), λ q. e ∙ records-none s),
+        ),
+      ),
+    )
 
 member-requires : tie.Need-member-requires Inv-loop μ-loop
 member-requires c κs = search needs
@@ -96,30 +93,44 @@ loop-again c =
     let low = b .before .before .loop-test .taken in
     let inside : i < nodeCount s = omega (arith, l .inv .0) in
     let is-leaf : not (b .before .member .result) ≡ leaf t i =
-        ap not (b .before .member .ensures) ∙ leaf-of-set t (st .args .inner) i (st .pre .0 .nodes-to) (st .pre .1 .1) inside in
+    ap not (b .before .member .ensures) ∙ leaf-of-set t (st .args .inner) i (st .pre .0 .nodes-to) (st .pre .1 .1) inside in
     let next = row-more s i (l .inv .1 .0) inside in
     ⊎-elim
     (λ w.
-        let node = w .1 .given .0 .0 in
-        let made = made-is i (not (b .before .member .result)) (nodeAt s i) node (sym (b .read-node .ensures) ∙ w .1 .given .1) in
-        let none : nodeRefusal i (leaf t i) (nodeAt s i) ≡ 0 = rw is-leaf at (made .0) in
-        (l .inv .0,
-         (omega arith,
-          (omega arith,
-           (w .4 ∙ l .inv .1 .1 .1 .0 ∙ sym (next ∙ ap (sooner (rowTo t i)) none ∙ sooner-none (rowTo t i)),
+    let node = w .1 .given .0 .0 in
+    let made = made-is i (not (b .before .member .result)) (nodeAt s i) node (sym (b .read-node .ensures) ∙ w .1 .given .1) in
+    let none : nodeRefusal i (leaf t i) (nodeAt s i) ≡ 0 = rw is-leaf at (made .0) in (
+      l .inv .0,
+      (
+        omega arith,
+        (
+          omega arith,
+          (
+            w .4 ∙ l .inv .1 .1 .1 .0 ∙ sym (next ∙ ap (sooner (rowTo t i)) none ∙ sooner-none (rowTo t i)),
             λ q. w .3
-            ∙ ap (λ (j : Job). stored j i node) (l .inv .1 .1 .1 .1 (sym (w .4) ∙ q))
-            ∙ ap (stored (structOf (treeTo s i) (frameCount s)) i) (sym (made .1))
-            ∙ records-more s i (l .inv .1 .0) (omega (arith, st .pre .0 .nodes-to)))))))
+                ∙ ap (λ (j : Job). stored j i node) (l .inv .1 .1 .1 .1 (sym (w .4) ∙ q))
+                ∙ ap (stored (structOf (treeTo s i) (frameCount s)) i) (sym (made .1))
+                ∙ records-more s i (l .inv .1 .0) (omega (arith, st .pre .0 .nodes-to)),
+          ),
+        ),
+      ),
+    ))
     (λ w.
-        let row = w .1 .given .0 .0 in
-        let refused = refused-is i (not (b .before .member .result)) (nodeAt s i) row (sym (b .read-node .ensures) ∙ w .1 .given .1) in
-        let some-row : nodeRefusal i (leaf t i) (nodeAt s i) ≡ row = rw is-leaf at (refused .0) in
-        (l .inv .0,
-         (omega arith,
-          (omega arith,
-           (w .5 ∙ w .3 .ensures ∙ ap (λ (a : ℕ). sooner a row) (l .inv .1 .1 .1 .0) ∙ sym (next ∙ ap (sooner (rowTo t i)) some-row),
-            λ q. absurd (sooner-some (l .refusal) row (refused .1) (sym (w .5 ∙ w .3 .ensures) ∙ q)))))))
+    let row = w .1 .given .0 .0 in
+    let refused = refused-is i (not (b .before .member .result)) (nodeAt s i) row (sym (b .read-node .ensures) ∙ w .1 .given .1) in
+    let some-row : nodeRefusal i (leaf t i) (nodeAt s i) ≡ row = rw is-leaf at (refused .0) in (
+      l .inv .0,
+      (
+        omega arith,
+        (
+          omega arith,
+          (
+            w .5 ∙ w .3 .ensures ∙ ap (λ (a : ℕ). sooner a row) (l .inv .1 .1 .1 .0) ∙ sym (next ∙ ap (sooner (rowTo t i)) some-row),
+            λ q. absurd (sooner-some (l .refusal) row (refused .1) (sym (w .5 ∙ w .3 .ensures) ∙ q)),
+          ),
+        ),
+      ),
+    ))
     (c .match .came)
 
 refused-requires : tie.Need-refused-requires Inv-loop μ-loop

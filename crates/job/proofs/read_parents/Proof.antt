@@ -1,22 +1,18 @@
+use mathlib.Core.Path.{_≡_, refl, ap, _∙_}
+use mathlib.Core.List.{List}
+use Prim.Native.Nat.{ℕ, _+_, _-_, _≤_, _<_}
+use native.Mathlib.Omega.{arith}
+use lib.ListN.{length, set}
+use borrow.Author.Needs.{needs}
+use Rattle.base.specs.Table.{tab}
 use Rattle.job.specs.declared.Job.{Job}
 use Rattle.job.proofs.ReadLaws.{record-in, fields-none, fields-more}
-use Rattle.job.specs.Read.{structOf, parentsOf}
+use Rattle.job.specs.Read.{structOf}
 use Rattle.job.specs.Bytes.{recordWidth, nodeCount, frameCount, parentAt, perNode}
 use Rattle.job.specs.Tree.{Tree}
 use Rattle.job.specs.Limits.{mostNodes}
-use Rattle.base.specs.Table.{tab}
-use lib.ListN.{length, set}
-use mathlib.Core.Path.{_≡_, refl, ap, sym, _∙_}
-use mathlib.Core.List.{List}
-use Prim.Native.Nat.{ℕ, _+_, _-_, _≤_, _<_}
-use borrow.Author.Needs.{needs}
-use native.Mathlib.Omega.{arith}
 use Rattle.job.proofs.read_parents.Statement.{statement}
 use Rattle.job.proofs.read_parents.Tie as tie
-use Rattle.job.proofs.read_parents.Reads as reads
-use Rattle.job.proofs.read_parents.Lts as lts
-use Rattle.base.proofs.number_at.Reads as number-at-reads
-use Rattle.job.proofs.record_place.Reads as record-place-reads
 
 -- the parents of the nodes below i
 abbrev parentsTo : List ℕ → ℕ → Tree
@@ -32,11 +28,16 @@ abbrev μ-loop : tie.MeasureT-loop
 loop-holds : tie.Need-loop-holds Inv-loop μ-loop
 loop-holds c =
     let s = c .before .args .s .now in
-    let e = c .before .pre .1 in
-    (ap (λ (j : Job). j .nodes) e,
-     (omega arith,
-      (omega (arith, c .before .pre .0 .nodes-from, ap (λ (j : Job). j .nodes) e),
-       e ∙ rw (fields-none (parentAt s)) refl)))
+    let e = c .before .pre .1 in (
+      ap (λ (j : Job). j .nodes) e,
+      (
+        omega arith,
+        (
+          omega (arith, c .before .pre .0 .nodes-from, ap (λ (j : Job). j .nodes) e),
+          e ∙ rw (fields-none (parentAt s)) refl,
+        ),
+      ),
+    )
 
 record-place-requires : tie.Need-record-place-requires Inv-loop μ-loop
 record-place-requires c κs = search needs
@@ -72,11 +73,16 @@ loop-again c =
     let l = c .before .before .before .loop in
     let e = l .inv .1 .1 .1 in
     let row : set (l .out .parent) (l .i) (c .number-at .result) ≡ tab (perNode (l .i + 1) (parentAt s)) mostNodes =
-        rw (ap (λ (j : Job). j .parent) e, parent-is c) (fields-more (parentAt s) (l .i) (l .inv .1 .0) (omega (arith, c .before .before .before .before .before .pre .0 .nodes-to))) in
-    (l .inv .0,
-     (omega arith,
-      (omega arith,
-       λ x. record { nodes = e x .nodes; frames = e x .frames; parent = row x; delay = e x .delay; memory = e x .memory; rate = e x .rate })))
+    rw (ap (λ (j : Job). j .parent) e, parent-is c) (fields-more (parentAt s) (l .i) (l .inv .1 .0) (omega (arith, c .before .before .before .before .before .pre .0 .nodes-to))) in (
+      l .inv .0,
+      (
+        omega arith,
+        (
+          omega arith,
+          λ x. record { nodes = e x .nodes; frames = e x .frames; parent = row x; delay = e x .delay; memory = e x .memory; rate = e x .rate },
+        ),
+      ),
+    )
 
 returns : tie.Need-returns Inv-loop μ-loop
 returns c =

@@ -1,27 +1,20 @@
-use Rattle.job.specs.declared.Reading.{Reading}
-use Rattle.job.specs.Read.{structOf, refusedOr, nodesRefusal, restRefusal}
-use Rattle.job.specs.Bytes.{treeOf, frameCount}
 use mathlib.Core.Bool.{_&&_, cond}
 use mathlib.Core.List.{List}
+use mathlib.Core.Path.{_≡_, refl, ap, sym, _∙_}
 use Prim.Native.Nat.{ℕ}
+use native.Mathlib.Omega.{arith}
+use lib.Dec.{ltb}
+use borrow.Author.Needs.{needs}
+use Rattle.base.specs.Set.{wordBits}
+use Rattle.job.specs.declared.Reading.{Reading}
+use Rattle.job.specs.Read.{structOf, refusedOr, treeIn}
+use Rattle.job.specs.Steps.{nodesRefusal, restRefusal}
+use Rattle.job.specs.Bytes.{treeOf, frameCount}
 use Rattle.job.proofs.RefusalLaws.{parents-settle, refusedOr-number, orElse-first, orElse-second}
 use Rattle.job.specs.declared.Job.{Job}
-use Rattle.job.specs.Read.{treeIn}
 use Rattle.job.specs.Tree.{hasChild}
-use Rattle.base.specs.Set.{wordBits}
-use lib.Dec.{ltb}
-use mathlib.Core.Path.{_≡_, refl, ap, sym, _∙_}
-use native.Mathlib.Omega.{arith}
-use borrow.Author.Needs.{needs}
 use Rattle.job.proofs.read_rest.Statement.{statement}
 use Rattle.job.proofs.read_rest.Tie as tie
-use Rattle.job.proofs.read_rest.Reads as reads
-use Rattle.job.proofs.read_rest.Lts as lts
-use Rattle.job.proofs.Job.inner_nodes.Reads as inner-nodes-reads
-use Rattle.job.proofs.read_nodes.Reads as read-nodes-reads
-use Rattle.job.proofs.read_parents.Reads as read-parents-reads
-use Rattle.job.proofs.refused.Reads as refused-reads
-use Rattle.job.proofs.some_frame_wrong.Reads as some-frame-wrong-reads
 
 read-parents-requires : tie.Need-read-parents-requires
 read-parents-requires c κs = search needs
@@ -31,12 +24,15 @@ inner-nodes-requires c κs = omega (arith, c .before .before .pre .0 .nodes-from
 
 read-nodes-requires : tie.Need-read-nodes-requires
 read-nodes-requires c κs =
-    let st = c .before .before .before in
-    (st .pre .0,
-     (st .pre .1,
-      λ k. c .inner-nodes .ensures k
-      ∙ ap (λ (j : Job). hasChild (treeIn j) k && ltb k wordBits) (c .before .read-parents .ensures)
-      ∙ rw (parents-settle (st .args .s .now) (st .pre .0 .nodes-to) k) refl))
+    let st = c .before .before .before in (
+      st .pre .0,
+      (
+        st .pre .1,
+        λ k. c .inner-nodes .ensures k
+            ∙ ap (λ (j : Job). hasChild (treeIn j) k && ltb k wordBits) (c .before .read-parents .ensures)
+            ∙ rw (parents-settle (st .args .s .now) (st .pre .0 .nodes-to) k) refl,
+      ),
+    )
 
 abbrev read-of : List ℕ → Job
 read-of s = structOf (treeOf s) (frameCount s)

@@ -1,5 +1,5 @@
-use borrow.Author.Needs.{needs}
 use mathlib.Core.Path.{ap, _∙_}
+use borrow.Author.Needs.{needs}
 use Rattle.job.proofs.RefusalLaws.{refusedOr-number}
 use Rattle.job.specs.declared.Reading.{Reading}
 use Rattle.job.proofs.refusal.Statement.{statement}

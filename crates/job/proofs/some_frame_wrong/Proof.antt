@@ -1,23 +1,18 @@
-use Rattle.job.proofs.NodeLaws.{frame-large, frame-fits}
-use Rattle.base.proofs.RangeLaws.{some-passes}
+use mathlib.Core.Path.{_≡_, refl, sym, _∙_}
+use mathlib.Core.Bool.{true, false}
+use Prim.Native.Nat.{_+_, _-_, _*_, _≤_}
 use native.Mathlib.Numerals.{add-one}
+use native.Mathlib.Omega.{arith}
+use lib.ListN.{length}
+use borrow.Author.Needs.{needs}
+use Rattle.base.proofs.RangeLaws.{some-passes}
+use Rattle.base.specs.Range.{some}
+use Rattle.job.proofs.NodeLaws.{frame-large, frame-fits}
 use Rattle.job.proofs.ReadLaws.{frame-in}
 use Rattle.job.specs.Refusal.{frameWrong}
-use Rattle.job.specs.Bytes.{framesPlace, frameWidth, frameAt, nodeCount, frameCount}
-use Rattle.base.specs.Range.{some}
-use lib.ListN.{length}
-use mathlib.Core.Path.{_≡_, refl, ap, sym, _∙_}
-use mathlib.Core.Bool.{true, false}
-use Prim.Native.Nat.{ℕ, _+_, _-_, _*_, _≤_, _<_}
-use borrow.Author.Needs.{needs}
-use native.Mathlib.Omega.{arith}
+use Rattle.job.specs.Bytes.{framesPlace, frameWidth, frameAt, frameCount}
 use Rattle.job.proofs.some_frame_wrong.Statement.{statement}
 use Rattle.job.proofs.some_frame_wrong.Tie as tie
-use Rattle.job.proofs.some_frame_wrong.Reads as reads
-use Rattle.job.proofs.some_frame_wrong.Lts as lts
-use Rattle.base.proofs.number4_at.Reads as number4-at-reads
-use Rattle.job.proofs.Frame.new.Reads as new-reads
-use Rattle.job.proofs.record_place.Reads as record-place-reads
 
 abbrev Inv-loop : tie.InvT-loop
 Inv-loop s nodes frames at₀ m₀ at m = (m ≤ frames) × ((at ≡ framesPlace s + frameWidth * m) × (some (λ x. frameWrong (frameAt s x)) m ≡ false))

@@ -1,23 +1,17 @@
+use mathlib.Core.Path.{_≡_, ap, sym, _∙_}
+use Prim.Native.Nat.{ℕ, _+_, _-_, _*_, _≤_}
+use native.Mathlib.Omega.{arith}
+use lib.ListN.{length, set, length-set}
+use borrow.Author.Needs.{needs}
+use Rattle.base.proofs.TableLaws.{filled-none, filled-more, filled-again, filled-done}
+use Rattle.base.specs.Table.{tab, Filled}
 use Rattle.job.proofs.SlotLaws.{T-zero, T-suc, T-fits}
 use Rattle.job.proofs.RefusalLaws.{accepted-sized, accepted-within}
 use Rattle.job.proofs.ReadLaws.{header-in, frame-in}
 use Rattle.job.specs.Bytes.{nodeCount, frameCount, framesPlace, frameWidth, frameAt, jobOf}
-use Rattle.job.specs.Limits.{mostFrames, greatestFrame}
 use Rattle.job.specs.Tree.{T}
-use Rattle.base.proofs.TableLaws.{filled-none, filled-more, filled-again, filled-done}
-use Rattle.base.specs.Table.{tab, Filled}
-use lib.ListN.{length, set, length-set}
-use mathlib.Core.Path.{_≡_, refl, ap, sym, _∙_}
-use Prim.Native.Nat.{ℕ, _+_, _-_, _*_, _≤_, _<_}
-use borrow.Author.Needs.{needs}
-use native.Mathlib.Omega.{arith}
 use Rattle.job.proofs.sums.Statement.{statement}
 use Rattle.job.proofs.sums.Tie as tie
-use Rattle.job.proofs.sums.Reads as reads
-use Rattle.job.proofs.sums.Lts as lts
-use Rattle.base.proofs.number4_at.Reads as number4-at-reads
-use Rattle.base.proofs.number_at.Reads as number-at-reads
-use Rattle.job.proofs.record_place.Reads as record-place-reads
 
 abbrev Inv-loop : tie.InvT-loop
 Inv-loop s out₀ nodes frames at₀ total₀ m₀ out at total m =
@@ -71,11 +65,16 @@ loop-holds c =
     let st = c .before .before .before .before in
     let s = st .args .s .now in
     let l = st .args .out .now in
-    let first : Filled (T (jobOf s)) (0 + 1) l (set l 0 0) = rw (T-zero (jobOf s)) at (filled-more (T (jobOf s)) 0 l l (filled-none (T (jobOf s)) l) (omega arith)) in
-    (omega arith,
-     (length-set l 0 0 ∙ omega arith,
-      (omega arith,
-       (c .record-place .ensures ∙ rw (nodes-is (c .before)) (omega arith), (sym (T-zero (jobOf s)), filled-again (T (jobOf s)) (0 + 1) l (set l 0 0) first)))))
+    let first : Filled (T (jobOf s)) (0 + 1) l (set l 0 0) = rw (T-zero (jobOf s)) at (filled-more (T (jobOf s)) 0 l l (filled-none (T (jobOf s)) l) (omega arith)) in (
+      omega arith,
+      (
+        length-set l 0 0 ∙ omega arith,
+        (
+          omega arith,
+          (c .record-place .ensures ∙ rw (nodes-is (c .before)) (omega arith), (sym (T-zero (jobOf s)), filled-again (T (jobOf s)) (0 + 1) l (set l 0 0) first)),
+        ),
+      ),
+    )
 
 number4-at-requires : tie.Need-number4-at-requires Inv-loop μ-loop
 number4-at-requires c κs = omega (arith, inside c)
@@ -106,12 +105,19 @@ loop-less c = search needs
 loop-again : tie.Need-loop-again Inv-loop μ-loop
 loop-again c =
     let l = c .before .before .loop in
-    let s = c .before .before .before .before .before .before .before .args .s .now in
-    (l .inv .0,
-     (l .inv .1 .0,
-      (omega arith,
-       (omega (arith, l .inv .1 .1 .1 .0),
-        (next c, rw (next c) (filled-more (T (jobOf s)) (l .m + 1) _ (l .out) (l .inv .1 .1 .1 .1 .1) (omega (arith, l .inv .1 .0))))))))
+    let s = c .before .before .before .before .before .before .before .args .s .now in (
+      l .inv .0,
+      (
+        l .inv .1 .0,
+        (
+          omega arith,
+          (
+            omega (arith, l .inv .1 .1 .1 .0),
+            (next c, rw (next c) (filled-more (T (jobOf s)) (l .m + 1) _ (l .out) (l .inv .1 .1 .1 .1 .1) (omega (arith, l .inv .1 .0)))),
+          ),
+        ),
+      ),
+    )
 
 same-length : tie.Need-same-length Inv-loop μ-loop
 same-length c =

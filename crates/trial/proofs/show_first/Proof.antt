@@ -1,12 +1,9 @@
 use mathlib.Core.Path.{sym}
-use lib.Seq.{length-take-le}
 use native.Mathlib.Omega.{arith}
+use lib.Seq.{length-take-le}
 use borrow.Author.Needs.{needs}
 use Rattle.trial.proofs.show_first.Statement.{statement}
 use Rattle.trial.proofs.show_first.Tie as tie
-use Rattle.trial.proofs.show_first.Reads as reads
-use Rattle.trial.proofs.show_first.Lts as lts
-use Rattle.trial.proofs.show.Reads as show-reads
 
 slice-aggregate-show : tie.Need-slice-aggregate-show
 slice-aggregate-show c = let a = c .before .before .before .before .args in sym (length-take-le (a .len) (a .job .now) (omega arith))

@@ -1,10 +1,6 @@
 use borrow.Author.Tests.{lt-ltb, le-ltb}
-use borrow.Author.Needs.{needs}
-use native.Mathlib.Omega.{arith}
 use Rattle.job.proofs.Frame.new.Statement.{statement}
 use Rattle.job.proofs.Frame.new.Tie as tie
-use Rattle.job.proofs.Frame.new.Reads as reads
-use Rattle.job.proofs.Frame.new.Lts as lts
 
 returns : tie.Need-returns
 returns c = simp (lt-ltb _ _ (c .if1 .taken))

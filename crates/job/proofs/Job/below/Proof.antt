@@ -1,24 +1,17 @@
-use Rattle.job.proofs.TreeLaws.{shape, link-is, parents-none, parents-more, below-step, below-in, below-root-none}
-use Rattle.job.specs.Tree.{link, child, hasChild, leaf, below, meets}
-use Rattle.base.proofs.CollectLaws.{With, Passing, passing-none, passing-more, Collected, collected-none, collected-take, collected-skip, collected-done}
-use Rattle.base.proofs.BoolLaws.{and-true}
-use Rattle.base.specs.Set.{has, wordBits}
-use Rattle.base.specs.Range.{some, fold}
-use borrow.Author.Tests.{eq-eqb, ne-eqb, lt-ltb}
-use lib.Dec.{eqb, ltb}
-use lib.ListN.{length, getD}
 use mathlib.Core.Logic.{⊎-elim}
-use mathlib.Core.Path.{_≡_, refl, ap, sym, _∙_}
-use mathlib.Core.Bool.{Bool, _&&_, _||_}
-use Prim.Native.Nat.{ℕ, _+_, _-_, _≤_, _<_, max}
-use borrow.Author.Needs.{needs}
+use mathlib.Core.Path.{_≡_, refl, sym, _∙_}
+use Prim.Native.Nat.{_-_, _≤_, _<_}
 use native.Mathlib.Omega.{arith}
+use lib.ListN.{getD}
+use borrow.Author.Tests.{lt-ltb}
+use borrow.Author.Needs.{needs}
+use Rattle.base.proofs.CollectLaws.{Collected, collected-none, collected-take, collected-skip, collected-done}
+use Rattle.base.proofs.BoolLaws.{and-true}
+use Rattle.base.specs.Set.{has}
+use Rattle.job.proofs.TreeLaws.{shape, link-is, below-step, below-in, below-root-none}
+use Rattle.job.specs.Tree.{below, meets}
 use Rattle.job.proofs.Job.below.Statement.{statement}
 use Rattle.job.proofs.Job.below.Tie as tie
-use Rattle.job.proofs.Job.below.Reads as reads
-use Rattle.job.proofs.Job.below.Lts as lts
-use Rattle.base.proofs.with.Reads as with-reads
-use Rattle.job.proofs.joins.Reads as joins-reads
 
 abbrev Inv-loop : tie.InvT-loop
 Inv-loop a nodes parent set₀ i₀ set i = (0 < i) × ((i ≤ nodes) × Collected (λ k. below (shape nodes parent) k a) i set)
@@ -59,14 +52,17 @@ loop-again c =
     let low : p < s .i = st .pre .parents (s .i) (link-is (a .self .nodes) (s .i) (s .inv .0) (c .before .before .loop-test .taken)) in
     let lower : has (s .set) p ≡ below t p (a .a) = s .inv .1 .1 p ∙ rw (lt-ltb p (s .i) low, and-true) refl in
     let here : c .before .joins .result ≡ below t (s .i) (a .a) =
-        c .before .joins .ensures
-        ∙ rw lower (sym (below-step t (st .pre .parents) (s .i) (a .a) (s .inv .0) (c .before .before .loop-test .taken))) in
-    (omega arith,
-     (omega arith,
-      ⊎-elim
-      (λ w. rw (w .2) (collected-take (λ k. below t k (a .a)) (s .i) (s .set) _ (omega (arith, st .pre .nodes-to)) (sym here ∙ w .0 .taken) (s .inv .1 .1) (w .1 .ensures)))
-      (λ w. rw (w .1) (collected-skip (λ k. below t k (a .a)) (s .i) (s .set) (sym here ∙ w .0 .left) (s .inv .1 .1)))
-      (c .if1 .came)))
+    c .before .joins .ensures
+    ∙ rw lower (sym (below-step t (st .pre .parents) (s .i) (a .a) (s .inv .0) (c .before .before .loop-test .taken))) in (
+      omega arith,
+      (
+        omega arith,
+        ⊎-elim
+            (λ w. rw (w .2) (collected-take (λ k. below t k (a .a)) (s .i) (s .set) _ (omega (arith, st .pre .nodes-to)) (sym here ∙ w .0 .taken) (s .inv .1 .1) (w .1 .ensures)))
+            (λ w. rw (w .1) (collected-skip (λ k. below t k (a .a)) (s .i) (s .set) (sym here ∙ w .0 .left) (s .inv .1 .1)))
+            (c .if1 .came),
+      ),
+    )
 
 returns : tie.Need-returns Inv-loop μ-loop
 unfolding below meets

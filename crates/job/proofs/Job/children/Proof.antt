@@ -1,22 +1,16 @@
-use Rattle.job.proofs.TreeLaws.{shape, link-is, child-link, child-in, child-root}
-use borrow.Author.Tests.{eq-eqb, ne-eqb}
-use mathlib.Core.Path.{_≡_, refl, ap, sym, _∙_}
-use Rattle.job.proofs.TreeLaws.{shape, link-is, child-link, child-in}
-use Rattle.job.specs.Tree.{link, child, hasChild, leaf, below}
-use Rattle.base.proofs.CollectLaws.{With, Passing, passing-none, passing-more, Collected, collected-none, collected-take, collected-skip, collected-done}
-use Rattle.base.specs.Set.{has, wordBits}
-use lib.Dec.{eqb, ltb}
-use lib.ListN.{length, getD}
+use mathlib.Core.Path.{_≡_, _∙_}
 use mathlib.Core.Logic.{⊎-elim}
-use mathlib.Core.Path.{_≡_, refl, sym, _∙_}
-use Prim.Native.Nat.{ℕ, _+_, _-_, _≤_, _<_}
-use borrow.Author.Needs.{needs}
+use Prim.Native.Nat.{_-_, _≤_, _<_}
 use native.Mathlib.Omega.{arith}
+use lib.Dec.{eqb}
+use lib.ListN.{getD}
+use borrow.Author.Tests.{eq-eqb, ne-eqb}
+use borrow.Author.Needs.{needs}
+use Rattle.base.proofs.CollectLaws.{Collected, collected-none, collected-take, collected-skip, collected-done}
+use Rattle.job.proofs.TreeLaws.{shape, child-link, child-in, child-root}
+use Rattle.job.specs.Tree.{child}
 use Rattle.job.proofs.Job.children.Statement.{statement}
 use Rattle.job.proofs.Job.children.Tie as tie
-use Rattle.job.proofs.Job.children.Reads as reads
-use Rattle.job.proofs.Job.children.Lts as lts
-use Rattle.base.proofs.with.Reads as with-reads
 
 abbrev Inv-loop : tie.InvT-loop
 Inv-loop a nodes parent set₀ i₀ set i = (0 < i) × ((i ≤ nodes) × Collected (λ k. child (shape nodes parent) k a) i set)
@@ -49,13 +43,16 @@ loop-again c =
     let s = c .before .before .loop in
     let a = c .before .before .before .before .args in
     let t = shape (a .self .nodes) (a .self .parent) in
-    let here : child t (s .i) (a .a) ≡ eqb (getD (a .self .parent) (s .i) 0) (a .a) = child-link t (s .i) (a .a) (s .inv .0) (c .before .loop-test .taken) in
-    (omega arith,
-     (omega arith,
-      ⊎-elim
-      (λ w. rw (w .2) (collected-take (λ k. child t k (a .a)) (s .i) (s .set) _ (omega arith) (here ∙ eq-eqb _ _ (w .0 .taken)) (s .inv .1 .1) (w .1 .ensures)))
-      (λ w. rw (w .1) (collected-skip (λ k. child t k (a .a)) (s .i) (s .set) (here ∙ ne-eqb _ _ (w .0 .left)) (s .inv .1 .1)))
-      (c .if1 .came)))
+    let here : child t (s .i) (a .a) ≡ eqb (getD (a .self .parent) (s .i) 0) (a .a) = child-link t (s .i) (a .a) (s .inv .0) (c .before .loop-test .taken) in (
+      omega arith,
+      (
+        omega arith,
+        ⊎-elim
+            (λ w. rw (w .2) (collected-take (λ k. child t k (a .a)) (s .i) (s .set) _ (omega arith) (here ∙ eq-eqb _ _ (w .0 .taken)) (s .inv .1 .1) (w .1 .ensures)))
+            (λ w. rw (w .1) (collected-skip (λ k. child t k (a .a)) (s .i) (s .set) (here ∙ ne-eqb _ _ (w .0 .left)) (s .inv .1 .1)))
+            (c .if1 .came),
+      ),
+    )
 
 returns : tie.Need-returns Inv-loop μ-loop
 unfolding child

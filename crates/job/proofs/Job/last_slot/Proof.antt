@@ -1,15 +1,11 @@
-use Rattle.job.proofs.SlotLaws.{greatestDelay-le, greatestDelay-set}
-use Rattle.job.specs.Read.{treeIn}
-use Rattle.job.specs.Tree.{H, greatestDelay}
 use mathlib.Core.Path.{_≡_, refl, _∙_}
 use native.Mathlib.Omega.{arith}
 use borrow.Author.Needs.{needs}
+use Rattle.job.proofs.SlotLaws.{greatestDelay-le, greatestDelay-set}
+use Rattle.job.specs.Read.{treeIn}
+use Rattle.job.specs.Tree.{H, greatestDelay}
 use Rattle.job.proofs.Job.last_slot.Statement.{statement}
 use Rattle.job.proofs.Job.last_slot.Tie as tie
-use Rattle.job.proofs.Job.last_slot.Reads as reads
-use Rattle.job.proofs.Job.last_slot.Lts as lts
-use Rattle.job.proofs.Job.leaves.Reads as leaves-reads
-use Rattle.job.proofs.longest.Reads as longest-reads
 
 leaves-requires : tie.Need-leaves-requires
 leaves-requires c κs = search needs

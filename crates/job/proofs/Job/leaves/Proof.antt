@@ -1,23 +1,17 @@
-use Rattle.job.specs.Read.{treeIn}
-use Rattle.job.specs.Tree.{hasChild, leaf}
+use mathlib.Core.Logic.{⊎-elim}
+use mathlib.Core.Path.{_≡_, refl, _∙_}
+use mathlib.Core.Bool.{Bool, not, _&&_}
+use Prim.Native.Nat.{ℕ, _-_, _≤_, _<_}
+use native.Mathlib.Omega.{arith}
+use lib.Dec.{ltb}
+use borrow.Author.Tests.{lt-ltb, le-ltb, ltb-true}
+use borrow.Author.Needs.{needs}
 use Rattle.base.proofs.CollectLaws.{Collected, collected-none, collected-take, collected-skip, collected-done}
 use Rattle.base.proofs.BoolLaws.{and-true, and-left, lt-or-le}
 use Rattle.base.specs.Set.{has, wordBits}
-use borrow.Author.Tests.{lt-ltb, le-ltb, ltb-true}
-use lib.Dec.{eqb, ltb}
-use mathlib.Core.Logic.{⊎-elim}
-use mathlib.Core.Path.{_≡_, refl, ap, sym, _∙_}
-use mathlib.Core.Bool.{Bool, true, false, not, _&&_, _||_}
-use Prim.Native.Nat.{ℕ, _+_, _-_, _≤_, _<_}
-use borrow.Author.Needs.{needs}
-use native.Mathlib.Omega.{arith}
+use Rattle.job.specs.Tree.{leaf}
 use Rattle.job.proofs.Job.leaves.Statement.{statement}
 use Rattle.job.proofs.Job.leaves.Tie as tie
-use Rattle.job.proofs.Job.leaves.Reads as reads
-use Rattle.job.proofs.Job.leaves.Lts as lts
-use Rattle.base.proofs.member.Reads as member-reads
-use Rattle.base.proofs.with.Reads as with-reads
-use Rattle.job.proofs.Job.inner_nodes.Reads as inner-nodes-reads
 
 -- a node that is not in `inner`
 abbrev childless : ℕ → ℕ → ℕ → Bool
@@ -53,12 +47,13 @@ loop-again c =
     let st = c .before .before .before .before in
     let n = st .before .args .self .nodes in
     let p = childless n (st .inner-nodes .result) in
-    let here : p (s .i) ≡ not (c .before .member .result) = rw (lt-ltb (s .i) n (c .before .before .loop-test .taken), c .before .member .ensures) refl in
-    (omega arith,
+    let here : p (s .i) ≡ not (c .before .member .result) = rw (lt-ltb (s .i) n (c .before .before .loop-test .taken), c .before .member .ensures) refl in (
+      omega arith,
       ⊎-elim
-      (λ w. rw (w .2) (collected-take p (s .i) (s .set) _ (omega arith) (here ∙ w .0 .taken) (s .inv .1) (w .1 .ensures)))
-      (λ w. rw (w .1) (collected-skip p (s .i) (s .set) (here ∙ w .0 .left) (s .inv .1)))
-      (c .if1 .came))
+          (λ w. rw (w .2) (collected-take p (s .i) (s .set) _ (omega arith) (here ∙ w .0 .taken) (s .inv .1) (w .1 .ensures)))
+          (λ w. rw (w .1) (collected-skip p (s .i) (s .set) (here ∙ w .0 .left) (s .inv .1)))
+          (c .if1 .came),
+    )
 
 returns : tie.Need-returns Inv-loop μ-loop
 unfolding leaf
@@ -70,9 +65,9 @@ returns c =
     let p = childless n (st .inner-nodes .result) in
     λ k. collected-done p (s .i) (s .set) (λ x h. omega (arith, ltb-true x n (and-left (ltb x n) _ h))) (s .inv .1) k
     ∙ ⊎-elim
-      (λ (h : k < n). rw (lt-ltb k n h, st .inner-nodes .ensures k, lt-ltb k wordBits (omega arith), and-true) refl)
-      (λ (h : n ≤ k). rw (le-ltb k n h) refl)
-      (lt-or-le k n)
+    (λ (h : k < n). rw (lt-ltb k n h, st .inner-nodes .ensures k, lt-ltb k wordBits (omega arith), and-true) refl)
+    (λ (h : n ≤ k). rw (le-ltb k n h) refl)
+    (lt-or-le k n)
 
 pub leaves-spec : {M : Type 1} → statement M
 leaves-spec =

@@ -1,13 +1,7 @@
 use mathlib.Core.Path.{refl, _∙_}
-use native.Mathlib.Omega.{arith}
 use borrow.Author.Needs.{needs}
 use Rattle.job.proofs.Job.leaves_below.Statement.{statement}
 use Rattle.job.proofs.Job.leaves_below.Tie as tie
-use Rattle.job.proofs.Job.leaves_below.Reads as reads
-use Rattle.job.proofs.Job.leaves_below.Lts as lts
-use Rattle.base.proofs.common.Reads as common-reads
-use Rattle.job.proofs.Job.below.Reads as below-reads
-use Rattle.job.proofs.Job.leaves.Reads as leaves-reads
 
 leaves-requires : tie.Need-leaves-requires
 leaves-requires c κs = search needs

@@ -1,13 +1,8 @@
-use mathlib.Core.Path.{sym, _∙_}
-use borrow.Author.Tests.{lt-ltb, le-ltb, eq-eqb, ne-eqb}
-use native.Mathlib.Omega.{arith}
+use mathlib.Core.Path.{_∙_}
+use borrow.Author.Tests.{lt-ltb, le-ltb}
 use borrow.Author.Needs.{needs}
 use Rattle.job.proofs.Job.new.Statement.{statement}
 use Rattle.job.proofs.Job.new.Tie as tie
-use Rattle.job.proofs.Job.new.Reads as reads
-use Rattle.job.proofs.Job.new.Lts as lts
-use Rattle.job.proofs.empty.Reads as empty-reads
-use Rattle.job.proofs.refused.Reads as refused-reads
 
 refused-requires : tie.Need-refused-requires
 refused-requires c κs = search needs

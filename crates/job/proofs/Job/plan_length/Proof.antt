@@ -1,16 +1,13 @@
-use Rattle.job.proofs.SlotLaws.{H-fits, planLength-fits}
-use Rattle.job.specs.Read.{jobIn}
-use Rattle.job.specs.Tree.{H, planLength}
-use Rattle.job.specs.Limits.{mostFrames, longestDelay}
 use mathlib.Core.Path.{_≡_, refl}
 use Prim.Native.Nat.{ℕ, _+_, _-_, _*_, _≤_}
 use native.Mathlib.Omega.{arith}
 use borrow.Author.Needs.{needs}
+use Rattle.job.proofs.SlotLaws.{H-fits, planLength-fits}
+use Rattle.job.specs.Read.{jobIn}
+use Rattle.job.specs.Tree.{planLength}
+use Rattle.job.specs.Limits.{mostFrames, longestDelay}
 use Rattle.job.proofs.Job.plan_length.Statement.{statement}
 use Rattle.job.proofs.Job.plan_length.Tie as tie
-use Rattle.job.proofs.Job.plan_length.Reads as reads
-use Rattle.job.proofs.Job.plan_length.Lts as lts
-use Rattle.job.proofs.Job.last_slot.Reads as last-slot-reads
 
 sub-result : tie.Need-sub-result
 sub-result c = search needs

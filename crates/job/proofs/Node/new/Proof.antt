@@ -1,12 +1,8 @@
 use mathlib.Core.Path.{sym, _∙_}
 use borrow.Author.Tests.{lt-ltb, le-ltb}
-use native.Mathlib.Omega.{arith}
 use borrow.Author.Needs.{needs}
 use Rattle.job.proofs.Node.new.Statement.{statement}
 use Rattle.job.proofs.Node.new.Tie as tie
-use Rattle.job.proofs.Node.new.Reads as reads
-use Rattle.job.proofs.Node.new.Lts as lts
-use Rattle.job.proofs.delay_wrong.Reads as delay-wrong-reads
 
 returns : tie.Need-returns
 returns c = simp (le-ltb _ _ (c .if1 .taken))
@@ -27,20 +23,22 @@ returns-3 c =
 returns-4 : tie.Need-returns-4
 returns-4 c =
     let b = c .before .before .before .before .before in
-    simp
-    (lt-ltb _ _ (b .before .if1 .left),
-     sym (b .delay-wrong .ensures) ∙ c .before .before .before .before .if2 .left,
-     le-ltb _ _ (c .before .before .if3 .left),
-     lt-ltb _ _ (c .if4 .taken))
+    simp (
+      lt-ltb _ _ (b .before .if1 .left),
+      sym (b .delay-wrong .ensures) ∙ c .before .before .before .before .if2 .left,
+      le-ltb _ _ (c .before .before .if3 .left),
+      lt-ltb _ _ (c .if4 .taken),
+    )
 
 returns-5 : tie.Need-returns-5
 returns-5 c =
     let b = c .before .before .before .before .before in
-    simp
-    (lt-ltb _ _ (b .before .if1 .left),
-     sym (b .delay-wrong .ensures) ∙ c .before .before .before .before .if2 .left,
-     le-ltb _ _ (c .before .before .if3 .left),
-     le-ltb _ _ (c .if4 .left))
+    simp (
+      lt-ltb _ _ (b .before .if1 .left),
+      sym (b .delay-wrong .ensures) ∙ c .before .before .before .before .if2 .left,
+      le-ltb _ _ (c .before .before .if3 .left),
+      le-ltb _ _ (c .if4 .left),
+    )
 
 pub new-spec : {M : Type 1} → statement M
 new-spec =

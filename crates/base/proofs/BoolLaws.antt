@@ -1,9 +1,10 @@
 -- Laws of truth values and of the order of two numbers.
-use mathlib.Core.Bool.{Bool, true, false, _&&_, _||_}
+use mathlib.Core.Bool.{Bool, true, false, cond, _&&_, _||_}
 use mathlib.Core.Path.{_≡_, refl, sym, _∙_}
 use mathlib.Core.Logic.{_⊎_, inl, inr}
-use Prim.Native.Nat.{ℕ, _≤_, _<_}
+use Prim.Native.Nat.{ℕ, suc, _≤_, _<_}
 use native.Mathlib.Decide.{decLt}
+use native.Mathlib.Nat.{eq-or-lt-of-le}
 use native.Mathlib.Omega.{arith}
 
 -- a truth value is true or false, and which is known
@@ -61,9 +62,20 @@ iff-same true b f g = sym (f refl)
 iff-same false true f g = g refl
 iff-same false false f g = refl
 
+-- what holds of both, holds of the one chosen
+pub cond-both : (b : Bool) (P : ℕ → Type 0) (x y : ℕ) → (b ≡ true → P x) → (b ≡ false → P y) → P (cond b x y)
+cond-both true P x y h k = h refl
+cond-both false P x y h k = k refl
+
+-- ---- the order of two numbers
+
 pub lt-or-le : (a b : ℕ) → (a < b) ⊎ (b ≤ a)
 lt-or-le a b = go (decLt a b)
   where
     go : Dec (a < b) → (a < b) ⊎ (b ≤ a)
     go (yes h) = inl h
     go (no h) = inr (omega arith)
+
+-- i is the last number below suc n, or lies below n
+pub last-or-below : (i n : ℕ) → i < suc n → (i ≡ n) ⊎ (i < n)
+last-or-below i n h = eq-or-lt-of-le (omega arith)

@@ -2,6 +2,7 @@ pub mod BoolLaws
 pub mod CollectLaws
 mod Examples
 pub mod NumberLaws
+pub mod PartLaws
 pub mod RangeLaws
 pub mod SetLaws
 pub mod TableLaws

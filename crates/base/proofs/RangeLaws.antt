@@ -1,12 +1,12 @@
--- Laws of the questions about the numbers below n that pass a test.
+-- Laws of the questions about the numbers below n, all of them or those that pass a test.
 use mathlib.Core.Bool.{Bool, true, false, cond}
-use mathlib.Core.Path.{_≡_, refl}
+use mathlib.Core.Path.{_≡_, refl, _∙_}
 use mathlib.Core.Logic.{_⊎_, inl, inr, ⊎-elim}
-use Prim.Native.Nat.{ℕ, zero, suc, _+_, _-_, _*_, _≤_, _<_, max}
-use native.Mathlib.Nat.{suc-mul, eq-or-lt-of-le, add-zero, add-suc}
+use Prim.Native.Nat.{ℕ, zero, suc, _+_, _-_, _*_, _≤_, _<_, max, min}
+use native.Mathlib.Nat.{suc-mul, add-zero, add-suc}
 use native.Mathlib.Omega.{arith}
-use Rattle.base.specs.Range.{sum, some, first, fold, greatestOver}
-use Rattle.base.proofs.BoolLaws.{true-or-false, not-both, lt-or-le, or-no-left, or-no-right, or-cases}
+use Rattle.base.specs.Range.{sum, sumOver, some, first, fold, greatest, greatestOver, leastOver}
+use Rattle.base.proofs.BoolLaws.{true-or-false, not-both, or-no-left, or-no-right, or-cases, lt-or-le, last-or-below}
 
 -- ---- sums
 
@@ -29,6 +29,38 @@ unfolding sum
 sum-cong f g zero h = refl
 sum-cong f g (suc m) h = rw (sum-cong f g m (λ i q. h i (omega arith)), h m (omega arith))
 
+-- ---- sums over those that pass
+
+module _ (p : ℕ → Bool) where
+  -- one number more
+  pub sumOver-take : (f : ℕ → ℕ) (n : ℕ) → p n ≡ true → sumOver p f (suc n) ≡ sumOver p f n + f n
+  unfolding sumOver
+  sumOver-take f n h = rw h
+
+  pub sumOver-skip : (f : ℕ → ℕ) (n : ℕ) → p n ≡ false → sumOver p f (suc n) ≡ sumOver p f n
+  unfolding sumOver
+  sumOver-skip f n h = rw h (omega arith)
+
+  pub sumOver-plus : (f g : ℕ → ℕ) (n : ℕ) → sumOver p (λ i. f i + g i) n ≡ sumOver p f n + sumOver p g n
+  unfolding sumOver
+  sumOver-plus f g zero = refl
+  sumOver-plus f g (suc n) =
+      let ih = sumOver-plus f g n in
+      ⊎-elim
+      (λ h. omega (arith, ih, sumOver-take (λ i. f i + g i) n h, sumOver-take f n h, sumOver-take g n h))
+      (λ h. omega (arith, ih, sumOver-skip (λ i. f i + g i) n h, sumOver-skip f n h, sumOver-skip g n h))
+      (true-or-false (p n))
+
+  pub sumOver-monotone : (f g : ℕ → ℕ) (n : ℕ) → ((i : ℕ) → i < n → p i ≡ true → f i ≤ g i) → sumOver p f n ≤ sumOver p g n
+  unfolding sumOver
+  sumOver-monotone f g zero each = omega arith
+  sumOver-monotone f g (suc n) each =
+      let ih = sumOver-monotone f g n (λ i l. each i (omega arith)) in
+      ⊎-elim
+      (λ h. omega (arith, ih, sumOver-take f n h, sumOver-take g n h, each n (omega arith) h))
+      (λ h. omega (arith, ih, sumOver-skip f n h, sumOver-skip g n h))
+      (true-or-false (p n))
+
 -- ---- some
 
 -- none passes: each fails
@@ -39,7 +71,7 @@ none-passes p (suc n) h i q =
     ⊎-elim
     (λ (e : i ≡ n). rw e (or-no-right (some p n) (p n) h))
     (λ (l : i < n). none-passes p n (or-no-left (some p n) (p n) h) i l)
-    (eq-or-lt-of-le (omega arith))
+    (last-or-below i n q)
 
 pub some-passes : (p : ℕ → Bool) (n i : ℕ) → i < n → p i ≡ true → some p n ≡ true
 some-passes p n i q h = ⊎-elim (λ (e : some p n ≡ true). e) (λ (e : some p n ≡ false). absurd (not-both h (none-passes p n e i q))) (true-or-false (some p n))
@@ -90,6 +122,17 @@ module _ {A : Type 0} (step : A → ℕ → A) (z : A) (p : ℕ → Bool) where
 
 -- ---- the greatest
 
+pub greatest-above : (f : ℕ → ℕ) (n i : ℕ) → i < n → f i ≤ greatest f n
+unfolding greatest
+greatest-above f zero i h = absurd (omega arith)
+greatest-above f (suc n) i h =
+    ⊎-elim (λ e. rw e (omega arith)) (λ l. omega (arith, greatest-above f n i l)) (last-or-below i n h)
+
+pub greatest-under : (f : ℕ → ℕ) (n m : ℕ) → ((i : ℕ) → i < n → f i ≤ m) → greatest f n ≤ m
+unfolding greatest
+greatest-under f zero m h = omega arith
+greatest-under f (suc n) m h = omega (arith, greatest-under f n m (λ i l. h i (omega arith)), h n (omega arith))
+
 pub greatestOver-above : (p : ℕ → Bool) (f : ℕ → ℕ) (n i : ℕ) → i < n → p i ≡ true → f i ≤ greatestOver p f n
 unfolding fold
 greatestOver-above p f zero i h t = absurd (omega arith)
@@ -97,7 +140,7 @@ greatestOver-above p f (suc n) i h t =
     ⊎-elim
     (λ (e : i ≡ n). let u : p n ≡ true = rw e at t in rw (u, e) (omega arith))
     (λ (l : i < n). go (p n) (greatestOver-above p f n i l t))
-    (eq-or-lt-of-le (omega arith))
+    (last-or-below i n h)
   where
     go : (b : Bool) → f i ≤ greatestOver p f n → f i ≤ cond b (max (greatestOver p f n) (f n)) (greatestOver p f n)
     go true q = omega arith
@@ -111,6 +154,56 @@ greatestOver-under p f (suc n) m h =
     (λ (e : p n ≡ true). rw e (omega (arith, greatestOver-under p f n m (λ i l. h i (omega arith)), h n (omega arith) e)))
     (λ (e : p n ≡ false). rw e (greatestOver-under p f n m (λ i l. h i (omega arith))))
     (true-or-false (p n))
+
+-- ---- the least
+
+module _ (p : ℕ → Bool) (f : ℕ → ℕ) where
+  leastOver-first : (n : ℕ) → p n ≡ true → some p n ≡ false → leastOver p f (suc n) ≡ f n
+  unfolding leastOver
+  leastOver-first n h e = rw (h, e)
+
+  leastOver-take : (n : ℕ) → p n ≡ true → some p n ≡ true → leastOver p f (suc n) ≡ min (leastOver p f n) (f n)
+  unfolding leastOver
+  leastOver-take n h e = rw (h, e)
+
+  leastOver-skip : (n : ℕ) → p n ≡ false → leastOver p f (suc n) ≡ leastOver p f n
+  unfolding leastOver
+  leastOver-skip n h = rw h
+
+  pub leastOver-below : (n i : ℕ) → i < n → p i ≡ true → leastOver p f n ≤ f i
+  leastOver-below zero i h t = absurd (omega arith)
+  leastOver-below (suc n) i h t =
+      ⊎-elim
+      (λ e. own (rw e at t) e (true-or-false (some p n)))
+      (λ l. earlier l (leastOver-below n i l t) (true-or-false (p n)))
+      (last-or-below i n h)
+    where
+      own : p n ≡ true → i ≡ n → (some p n ≡ true) ⊎ (some p n ≡ false) → leastOver p f (suc n) ≤ f i
+      own u e = ⊎-elim (λ s. rw e (omega (arith, leastOver-take n u s))) (λ s. rw e (omega (arith, leastOver-first n u s)))
+
+      earlier : i < n → leastOver p f n ≤ f i → (p n ≡ true) ⊎ (p n ≡ false) → leastOver p f (suc n) ≤ f i
+      earlier l ih = ⊎-elim (λ u. omega (arith, leastOver-take n u (some-passes p n i l t))) (λ u. omega (arith, leastOver-skip n u))
+
+  -- m is f i for some i below n that passes
+  abbrev pub Attained : ℕ → ℕ → Type 0
+  Attained n m = (i : ℕ) × (i < n) × (p i ≡ true) × (m ≡ f i)
+
+  pub leastOver-attained : (n : ℕ) → some p n ≡ true → Attained n (leastOver p f n)
+  unfolding some
+  leastOver-attained zero e = absurd (not-both e refl)
+  leastOver-attained (suc n) e = go (leastOver-attained n) (true-or-false (some p n)) (true-or-false (p n))
+    where
+      go : (some p n ≡ true → Attained n (leastOver p f n)) → (some p n ≡ true) ⊎ (some p n ≡ false) → (p n ≡ true) ⊎ (p n ≡ false)
+          → Attained (suc n) (leastOver p f (suc n))
+      go ih (inl s) (inl u) =
+          let (i, q, t, a) = ih s in
+          ⊎-elim
+          (λ (l : f n < leastOver p f n). (n, omega arith, u, omega (arith, leastOver-take n u s)))
+          (λ (l : leastOver p f n ≤ f n). (i, omega arith, t, omega (arith, leastOver-take n u s)))
+          (lt-or-le (f n) (leastOver p f n))
+      go ih (inl s) (inr u) = let (i, q, t, a) = ih s in (i, omega arith, t, leastOver-skip n u ∙ a)
+      go ih (inr s) (inl u) = (n, omega arith, u, leastOver-first n u s)
+      go ih (inr s) (inr u) = absurd (not-both e (rw (s, u)))
 
 -- ---- the first
 

@@ -4,11 +4,12 @@ use mathlib.Core.List.{List, [], _∷_, _++_, append-assoc, append-nil}
 use mathlib.Core.Logic.{⊎-elim}
 use Prim.Native.Nat.{ℕ, zero, suc, _+_, _-_, _*_, _≤_, _<_}
 use native.Mathlib.Omega.{arith}
-use native.Mathlib.Nat.{suc-mul, mul-le-mul-right, eq-or-lt-of-le}
+use native.Mathlib.Nat.{suc-mul, mul-le-mul-right}
 use native.Mathlib.Numerals.{add-one}
 use lib.ListN.{length, take, drop, getD, set, length-append, length-take, length-drop, List·getD-append, List·getD-eq-default, length-set}
 use lib.Seq.{take-at, drop-at, set-at, drop-cons, drop-drop, drop-length, getD-at, getD-append-add, ext-getD}
 use Rattle.base.specs.Table.{tab, rowsOf, Filled}
+use Rattle.base.proofs.BoolLaws.{last-or-below}
 
 pub length-tab : (f : ℕ → ℕ) (n : ℕ) → length (tab f n) ≡ n
 unfolding tab
@@ -29,7 +30,7 @@ getD-tab f (suc n) k h =
     ⊎-elim
     (λ (q : k ≡ n). rw q (getD-at (tab f n) (f n) [] 0 n (length-tab f n)))
     (λ (l : k < n). List·getD-append (tab f n) (f n ∷ []) 0 k (rw length-tab l) ∙ getD-tab f n k l)
-    (eq-or-lt-of-le (omega arith))
+    (last-or-below k n h)
 
 pub getD-tab-past : (f : ℕ → ℕ) (n k : ℕ) → n ≤ k → getD (tab f n) k 0 ≡ 0
 getD-tab-past f n k h = List·getD-eq-default (tab f n) 0 (rw length-tab h)
@@ -61,7 +62,7 @@ getD-rows r w (suc n) i k h hi hk =
     ⊎-elim
     (λ (q : i ≡ n). rw (q, ← m) (getD-append-add (rowsOf r n) (r n) k 0))
     (λ (l : i < n). List·getD-append (rowsOf r n) (r n) 0 (i * w + k) (omega (arith, row-end i n w l)) ∙ getD-rows r w n i k h l hk)
-    (eq-or-lt-of-le (omega arith))
+    (last-or-below i n hi)
 
 -- ---- a loop that fills a list from the front
 

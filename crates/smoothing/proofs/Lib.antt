@@ -1,0 +1,16 @@
+pub mod PassLaws
+pub mod ClosedLaws
+pub mod RowLaws
+pub mod LazyLaws
+pub mod CurveLaws
+pub mod LazyPlanLaws
+pub mod OptimalLaws
+pub mod BelowLaws
+pub mod SumLaws
+pub mod NeedLaws
+pub mod ServeLaws
+pub mod LeastMemoryLaws
+pub mod NewtonPassLaws
+pub mod NewtonLaws
+pub mod LoopLaws
+pub mod Examples

@@ -1,0 +1,6 @@
+pub mod Tree
+pub mod Row
+pub mod Plan
+pub mod Rates
+pub mod Newton
+pub mod Lists

@@ -6,3 +6,4 @@ pub mod PartLaws
 pub mod RangeLaws
 pub mod SetLaws
 pub mod TableLaws
+pub mod WalkLaws

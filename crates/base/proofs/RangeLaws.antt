@@ -1,6 +1,6 @@
 -- Laws of the questions about the numbers below n, all of them or those that pass a test.
 use mathlib.Core.Bool.{Bool, true, false, cond}
-use mathlib.Core.Path.{_≡_, refl, _∙_}
+use mathlib.Core.Path.{_≡_, refl, ap, _∙_}
 use mathlib.Core.Logic.{_⊎_, inl, inr, ⊎-elim}
 use Prim.Native.Nat.{ℕ, zero, suc, _+_, _-_, _*_, _≤_, _<_, max, min}
 use native.Mathlib.Nat.{suc-mul, add-zero, add-suc}
@@ -235,3 +235,35 @@ first-is p (suc n) r h t f =
         (λ (l : n ≤ r). let q : r ≡ n = omega arith in rw q u)
         (lt-or-le r n))))
         (lt-or-le n r)
+
+-- a number that is no greater than any of them is no greater than the least
+pub leastOver-above : (p : ℕ → Bool) (f : ℕ → ℕ) (n m : ℕ) → some p n ≡ true → ((i : ℕ) → i < n → p i ≡ true → m ≤ f i) → m ≤ leastOver p f n
+leastOver-above p f n m h each = let (i, l, u, q) = leastOver-attained p f n h in omega (arith, each i l u)
+
+-- the same numbers, the same least
+pub leastOver-cong : (p : ℕ → Bool) (f g : ℕ → ℕ) (n : ℕ) → ((i : ℕ) → i < n → p i ≡ true → f i ≡ g i) → leastOver p f n ≡ leastOver p g n
+unfolding leastOver
+leastOver-cong p f g zero h = refl
+leastOver-cong p f g (suc n) h =
+    ⊎-elim
+    (λ (e : p n ≡ true). rw (e, leastOver-cong p f g n (λ i l. h i (omega arith)), h n (omega arith) e))
+    (λ (e : p n ≡ false). rw (e, leastOver-cong p f g n (λ i l. h i (omega arith))))
+    (true-or-false (p n))
+
+-- the least as a walk finds it that starts from a number no less than any of them
+least-or : (p : ℕ → Bool) (f : ℕ → ℕ) (from n : ℕ) → ((i : ℕ) → i < n → p i ≡ true → f i ≤ from)
+    → fold (λ g i. min g (f i)) from p n ≡ cond (some p n) (leastOver p f n) from
+unfolding fold some leastOver
+least-or p f from zero each = refl
+least-or p f from (suc n) each = go (true-or-false (p n)) (true-or-false (some p n)) (least-or p f from n (λ i l. each i (omega arith)))
+  where
+    go : (p n ≡ true) ⊎ (p n ≡ false) → (some p n ≡ true) ⊎ (some p n ≡ false) → fold (λ g i. min g (f i)) from p n ≡ cond (some p n) (leastOver p f n) from
+        → fold (λ g i. min g (f i)) from p (suc n) ≡ cond (some p (suc n)) (leastOver p f (suc n)) from
+    go (inl t) (inl e) ih = rw (t, e) (ap (λ (g : ℕ). min g (f n)) (rw e at ih))
+    go (inl t) (inr e) ih = let q : fold (λ g i. min g (f i)) from p n ≡ from = rw e at ih in rw (t, e, q) (omega (arith, each n (omega arith) t))
+    go (inr t) (inl e) ih = rw (t, e) (rw e at ih)
+    go (inr t) (inr e) ih = rw (t, e) (rw e at ih)
+
+pub fold-least : (p : ℕ → Bool) (f : ℕ → ℕ) (from n : ℕ) → some p n ≡ true → ((i : ℕ) → i < n → p i ≡ true → f i ≤ from)
+    → fold (λ g i. min g (f i)) from p n ≡ leastOver p f n
+fold-least p f from n h each = least-or p f from n each ∙ rw h

@@ -1,4 +1,4 @@
--- Laws of sets of numbers as 64-bit words: single digits, the lowest member, how many members, and the walk over all of them.
+-- Laws of sets of numbers as 64-bit words: single digits, the lowest member, how many members.
 use mathlib.Core.Bool.{Bool, true, false, not, _&&_, _||_}
 use mathlib.Core.Path.{_≡_, refl, ap, sym, _∙_}
 use mathlib.Core.Logic.{⊎-elim, _⊎_, inl, inr}
@@ -9,12 +9,12 @@ use lib.Pow.{shl-exact}
 use lib.Arith.{digits-div, digits-mod}
 use lib.Bits.{bitAnd, bitOr, and-step, or-step, and-self}
 use lib.Count.{trailingZeros, under, ones, ones-step, trailing-of-zero}
-use lib.Dec.{eqb, leb, ltb}
-use borrow.Author.Tests.{eq-eqb, ne-eqb, eqb-true, eqb-false, le-leb, lt-leb, leb-true, lt-ltb, le-ltb}
-use Rattle.base.specs.Range.{howMany, first, fold}
+use lib.Dec.{eqb, ltb}
+use borrow.Author.Tests.{eq-eqb, ne-eqb, eqb-true, eqb-false, lt-ltb, le-ltb}
+use Rattle.base.specs.Range.{howMany, first}
 use Rattle.base.specs.Set.{has, wordBits}
-use Rattle.base.proofs.BoolLaws.{true-or-false, lt-or-le, and-left, and-right, and-true, and-no-right, or-false}
-use Rattle.base.proofs.RangeLaws.{first-is, fold-skip, fold-take}
+use Rattle.base.proofs.BoolLaws.{true-or-false, lt-or-le, and-true, and-no-right, or-false}
+use Rattle.base.proofs.RangeLaws.{first-is}
 
 -- ---- digits, one after the other
 
@@ -289,62 +289,3 @@ members-how-many (suc k) n =
 -- the count of ones is how many members there are
 pub count-is : (s : ℕ) → s < 2 ^ 64 → ones s ≡ howMany (has s) wordBits
 count-is s h = ones-members 64 s h ∙ members-how-many 64 s
-
--- ---- the walk: take the lowest member, clear it, go on while there is one
-
--- What holds along a walk over s: `rest` has the members of s from `place` on, and each member before it has been taken into `acc`,
--- once and in increasing order, and nothing else.
-pub record Walked {A : Type 0} (step : A → ℕ → A) (z : A) (s rest : ℕ) (acc : A) : Type 0 where
-  pub place : ℕ
-  pub within : place ≤ wordBits
-  pub fits : rest < 2 ^ 64
-  pub left : (j : ℕ) → has rest j ≡ (has s j && leb place j)
-  pub so-far : acc ≡ fold step z (has s) place
-
-module _ {A : Type 0} (step : A → ℕ → A) (z : A) (s : ℕ) where
-  pub walk-start : s < 2 ^ 64 → Walked step z s s z
-  unfolding fold
-  walk-start h =
-      record { place = 0; within = omega arith; fits = h; left = λ j. rw (le-leb 0 j (omega arith), and-true); so-far = refl }
-
-  -- from its place on, the rest has what s has
-  rest-past : (rest : ℕ) (acc : A) (w : Walked step z s rest acc) (j : ℕ) → w .place ≤ j → has rest j ≡ has s j
-  rest-past rest acc w j h = w .left j ∙ rw (le-leb (w .place) j h, and-true)
-
-  -- the member met next is one of s
-  pub walk-in : (rest : ℕ) (acc : A) → Walked step z s rest acc → 0 < rest → has s (first (has rest) wordBits) ≡ true
-  walk-in rest acc w h =
-      let t = first (has rest) wordBits in
-      and-left (has s t) (leb (w .place) t) (sym (w .left t) ∙ first-in rest (w .fits) h)
-
-  pub walk-next : (rest next : ℕ) (acc : A) → Walked step z s rest acc → 0 < rest → next ≤ rest - 1
-      → ((j : ℕ) → has next j ≡ (has rest j && not (eqb j (first (has rest) wordBits))))
-      → Walked step z s next (step acc (first (has rest) wordBits))
-  walk-next rest next acc w h le e =
-      let from : w .place ≤ t =
-      leb-true (w .place) t (and-right (has s t) (leb (w .place) t) (sym (w .left t) ∙ first-in rest (w .fits) h)) in
-      let gap : fold step z (has s) t ≡ fold step z (has s) (w .place) =
-      fold-skip step z (has s) (w .place) t from (λ j a b. sym (rest-past rest acc w j a) ∙ first-first rest (w .fits) h j b) in
-      record {
-        place = suc t;
-        within = first-lt rest (w .fits) h;
-        fits = omega (arith, w .fits);
-        left = λ j. e j ∙ past j from (lt-or-le t j);
-        so-far = rw (fold-take step z (has s) t (walk-in rest acc w h), gap, w .so-far) refl;
-      }
-    where
-      t : ℕ
-      t = first (has rest) wordBits
-
-      past : (j : ℕ) → w .place ≤ t → (t < j) ⊎ (j ≤ t) → (has rest j && not (eqb j t)) ≡ (has s j && leb (suc t) j)
-      past j from (inl l) = rw (ne-eqb j t (omega arith), le-leb (suc t) j l, and-true, and-true) (rest-past rest acc w j (omega arith))
-      past j from (inr l) =
-          ⊎-elim
-          (λ (q : j < t). rw (first-first rest (w .fits) h j q) refl)
-          (λ (q : t ≤ j). and-no-right (has rest j) (ap not (eq-eqb j t (omega arith))))
-          (lt-or-le j t)
-          ∙ sym (and-no-right (has s j) (lt-leb (suc t) j (omega arith)))
-
-  pub walk-done : (acc : A) → Walked step z s 0 acc → acc ≡ fold step z (has s) wordBits
-  walk-done acc w =
-      w .so-far ∙ sym (fold-skip step z (has s) (w .place) 64 (w .within) (λ j a b. sym (rest-past 0 acc w j a) ∙ has-none j))

@@ -81,6 +81,10 @@ pub filled-more : (f : ℕ → ℕ) (k : ℕ) (l p : List ℕ) → Filled f k l 
 filled-more f k l p h i =
     (omega arith, (length-set p k (f k) ∙ h .1 .0, ap (λ (q : List ℕ). set q k (f k)) (h .1 .1) ∙ tab-store f k l i))
 
+-- the place that is filled next still has what it had
+pub filled-ahead : (f : ℕ → ℕ) (k : ℕ) (l p : List ℕ) → Filled f k l p → k < length l → getD p k 0 ≡ getD l k 0
+filled-ahead f k l p h i = rw (h .1 .1, drop-cons l k 0 i) (getD-at (tab f k) (getD l k 0) (drop (suc k) l) 0 k (length-tab f k))
+
 -- what is filled stays filled, seen from where a loop begins
 pub filled-again : (f : ℕ → ℕ) (k : ℕ) (l p : List ℕ) → Filled f k l p → Filled f k p p
 filled-again f k l p h =

@@ -4,7 +4,8 @@ use lib.ListN.{getD}
 use borrow.Author.Needs.{needs}
 use Rattle.base.specs.Set.{has, wordBits}
 use Rattle.base.specs.Range.{first}
-use Rattle.base.proofs.SetLaws.{Walked, walk-start, walk-next, walk-done, first-lt}
+use Rattle.base.proofs.SetLaws.{first-lt}
+use Rattle.base.proofs.WalkLaws.{Walked, walk-start, walk-next, walk-done}
 use Rattle.job.proofs.longest.Statement.{statement}
 use Rattle.job.proofs.longest.Tie as tie
 

@@ -1,5 +1,5 @@
 -- The bounds of document 01, each once. In src/ each is an associated constant of the type that it bounds; `Limits::all` ties the two.
-use Prim.Native.Nat.{ℕ}
+use Prim.Native.Nat.{ℕ, _+_, _*_}
 
 -- node count n
 abbrev pub fewestNodes : ℕ
@@ -30,3 +30,13 @@ greatestRate = greatestMemory
 -- size of a frame, in bytes
 abbrev pub greatestFrame : ℕ
 greatestFrame = 16777215
+
+-- ---- what follows from them
+
+-- the most slots 0 to H that a job can have
+abbrev pub mostSlots : ℕ
+mostSlots = mostFrames + longestDelay + 1
+
+-- the most that a whole film can have, in bytes
+abbrev pub greatestTotal : ℕ
+greatestTotal = mostFrames * greatestFrame

@@ -140,6 +140,8 @@ impl Job {
     pub const FEWEST_FRAMES: usize = 1;
 
     pub const MOST_FRAMES: usize = 65_536;
+    // The most slots 0 to H that a job can have.
+    pub const MOST_SLOTS: usize = Job::MOST_FRAMES + Node::LONGEST_DELAY + 1;
     // The mark `RLY` as a number, and the version.
     pub const MARK: u64 = 0x52_4c_59;
 

@@ -1,0 +1,11 @@
+pub mod LowerLaws
+pub mod UpperLaws
+pub mod CurveEq
+pub mod SumsLaws
+pub mod DelayLaws
+pub mod RowLaws
+pub mod LowerRowLaws
+pub mod PathLaws
+pub mod WalkLaws
+pub mod UpperRowLaws
+mod Examples

@@ -1,0 +1,56 @@
+-- What the code works with: the delay that stands for a node, and how far a leaf is from another node's path.
+use mathlib.Core.Bool.{Bool, true, cond, _&&_, _||_}
+use mathlib.Core.Path.{_≡_}
+use mathlib.Core.List.{List}
+use Prim.Native.Nat.{ℕ, zero, suc, _+_, _-_, _≤_, _<_, max, min}
+use lib.Dec.{eqb, ltb}
+use lib.ListN.{length, getD}
+use Rattle.base.specs.Range.{leastOver}
+use Rattle.base.specs.Set.{has}
+use Rattle.job.specs.Limits.{mostNodes}
+use Rattle.job.specs.Tree.{Tree, leaf, below}
+use Rattle.curves.specs.Curves.{leafBelow, room, leastUp}
+
+-- the delay of a leaf; of an inner node the least delay of the leaves below it
+unfoldable pub leastDelay : Tree → ℕ → ℕ
+leastDelay t i = cond (leaf t i) (t .delay i) (leastOver (leafBelow t i) (t .delay) (t .n))
+
+-- slot k of a row that has taken in T(k - delay) less `less`, where that is more
+unfoldable pub raised : List ℕ → (ℕ → ℕ) → ℕ → ℕ → ℕ → ℕ
+raised l T delay less k = max (getD l k 0) (T (k - delay) - less)
+
+-- slot k of a row that has taken in T(k - delay) and `plus`, where that is less
+unfoldable pub lowered : List ℕ → (ℕ → ℕ) → ℕ → ℕ → ℕ → ℕ
+lowered l T delay plus k = min (getD l k 0) (T (k - delay) + plus)
+
+-- node i is a or below a
+unfoldable pub atOrBelow : Tree → ℕ → ℕ → Bool
+atOrBelow t a i = eqb i a || below t i a
+
+-- `path` has node i and its ancestors below the root, and top is the highest of them
+pub record PathOf (t : Tree) (i path top : ℕ) : Type 0 where
+  pub members : (a : ℕ) → has path a ≡ (ltb 0 a && atOrBelow t a i)
+  pub top-link : (0 < top) × (top < t .n)
+  pub top-in : has path top ≡ true
+  pub top-parent : t .parent top ≡ 0
+
+-- the memories of the nodes above node v up to the first one on the path, that one included, going up at most `steps` times; 0 where v
+-- itself is on it
+unfoldable pub apartIn : Tree → (ℕ → Bool) → ℕ → ℕ → ℕ
+apartIn t path zero v = 0
+apartIn t path (suc steps) v =
+    let parent = t .parent v in
+    cond (path v) 0 (cond (eqb parent 0) 0 (t .memory parent + apartIn t path steps parent))
+
+-- the same; where each parent is lower than its child, v steps always reach the root
+unfoldable pub apart : Tree → (ℕ → Bool) → ℕ → ℕ
+apart t path v = apartIn t path v v
+
+-- no slot of a row passes what the leaves taken in allow: node m allows T(k - its delay) and what `taken` has for it
+pub record Under (l : List ℕ) (T delay : ℕ → ℕ) (taken : List ℕ) : Type 0 where
+  pub places : length taken ≡ mostNodes
+  pub each : (m k : ℕ) → m < mostNodes → k < length l → getD l k 0 ≤ T (k - delay m) + getD taken m 0
+
+-- the upper curve but for slot 0
+unfoldable pub allowed : Tree → (ℕ → ℕ) → ℕ → ℕ → ℕ → ℕ
+allowed t T top i k = min (leastUp t (λ a. room t T a k) i i) top

@@ -1,0 +1,285 @@
+// The curves of document 01: one function fills a row with a node's lower curve, one with its upper curve.
+// Definitions to believe: specs/Curves; what the functions below work with: specs/Rows.
+ghost use mathlib.Core.Bool.{true, _&&_};
+ghost use mathlib.Core.Path.{_≡_};
+ghost use Prim.Native.Nat.{ℕ, _+_, _-_, _*_, _≤_, _<_, max, min};
+ghost use lib.Dec.{leb};
+ghost use lib.ListN.{length, getD, set};
+ghost use Rattle.base.specs.Range.{some, fold};
+ghost use Rattle.base.specs.Set.{has, wordBits};
+ghost use Rattle.base.specs.Table.{tab};
+ghost use Rattle.job.specs.Limits.{mostNodes, longestDelay, greatestMemory};
+ghost use Rattle.job.specs.Tree.{TreeWithin, leaf};
+ghost use Rattle.job.specs.Read.{treeIn};
+ghost use Rattle.curves.specs.Curves.{sumsIn, lastIn, HoldsSums, lowerCurve, upperCurve};
+ghost use Rattle.curves.specs.Rows.{leastDelay, raised, lowered, atOrBelow, PathOf, apart, Under, allowed};
+use job::Job;
+use job::Node;
+
+// Where T(k - delay) stands among T(0) to T(last).
+fn place(k: usize, delay: usize, last: usize) -> usize
+    ensures { λ r. ⌜ r ≡ min (k - delay) last ⌝ }
+{
+    if k < delay {
+        return 0;
+    }
+    if k - delay < last { k - delay } else { last }
+}
+
+fn larger(a: u64, b: u64) -> u64
+    ensures { λ r. ⌜ r ≡ max a b ⌝ }
+{
+    if a < b { b } else { a }
+}
+
+// a less b, cut off at 0.
+fn less_by(a: u64, b: u64) -> u64
+    ensures { λ r. ⌜ r ≡ a - b ⌝ }
+{
+    if a < b { 0 } else { a - b }
+}
+
+// Each slot k has T(k - delay).
+fn shift(out: &mut [u64], sums: &[u64], delay: usize)
+    requires { ⌜ 0 < length (now sums) ⌝ }
+    ensures { λ _. ⌜ now (out .exit) ≡ tab (λ k. sumsIn (now (sums .entry)) (k - delay)) (length (now (out .entry))) ⌝ }
+{
+    let last = sums.len() - 1;
+    let mut k = 0;
+    while k < out.len() {
+        out[k] = sums[place(k, delay, last)];
+        k += 1;
+    }
+}
+
+// Each slot k takes T(k - delay) less `less`, where that is more.
+fn raise(out: &mut [u64], sums: &[u64], delay: usize, less: u64)
+    requires { ⌜ 0 < length (now sums) ⌝ }
+    ensures { λ _. ⌜ now (out .exit) ≡ tab (raised (now (out .entry)) (sumsIn (now (sums .entry))) delay less) (length (now (out .entry))) ⌝ }
+{
+    let last = sums.len() - 1;
+    let mut k = 0;
+    while k < out.len() {
+        out[k] = larger(out[k], less_by(sums[place(k, delay, last)], less));
+        k += 1;
+    }
+}
+
+fn shorter(a: usize, b: usize) -> usize
+    ensures { λ r. ⌜ r ≡ min a b ⌝ }
+{
+    if b < a { b } else { a }
+}
+
+// The least of the numbers at the members of a set, where none is above the longest delay.
+fn shortest(set: u64, delay: &[usize; Job::MOST_NODES]) -> usize
+    ensures { λ r. ⌜ r ≡ fold (λ g i. min g (getD (now (delay .entry)) i 0)) longestDelay (has set) wordBits ⌝ }
+{
+    let mut acc: usize = Node::LONGEST_DELAY;
+    let mut rest = set;
+    while rest != 0 {
+        acc = shorter(acc, delay[base::lowest(rest)]);
+        rest = base::without_lowest(rest);
+    }
+    acc
+}
+
+// The least delay of the leaves at or below node a.
+fn least_delay(job: Job, a: usize) -> usize
+    requires { ⌜ TreeWithin (treeIn job) × (a < job .nodes) ⌝ }
+    ensures { λ r. ⌜ r ≡ leastDelay (treeIn job) a ⌝ }
+{
+    let set = job.leaves_below(a);
+    let delay = job.delay;
+    if set == 0 {
+        return delay[a];
+    }
+    shortest(set, &delay)
+}
+
+// The same as `raise`, at no cost where a delay no longer has been taken in with no more taken off.
+fn take_in(out: &mut [u64], sums: &[u64], delay: usize, less: u64, taken: usize) -> usize
+    requires { ⌜ HoldsSums (now sums) × ((k : ℕ) → k < length (now out) → sumsIn (now sums) (k - taken) - less ≤ getD (now out) k 0) ⌝ }
+    ensures { λ r. ⌜ (r ≡ min delay taken) × (now (out .exit) ≡ tab (raised (now (out .entry)) (sumsIn (now (sums .entry))) delay less) (length (now (out .entry)))) ⌝ }
+{
+    if delay < taken {
+        raise(out, sums, delay, less);
+        return delay;
+    }
+    taken
+}
+
+// lower_i(0), lower_i(1), .. : what node i brings, and on the way up what each ancestor below the root brings, over all slots before the next.
+pub fn lower_row(job: Job, sums: &[u64], i: usize, out: &mut [u64])
+    requires { ⌜ TreeWithin (treeIn job) × (((0 < i) × (i < job .nodes)) × HoldsSums (now sums)) ⌝ }
+    ensures { λ _. ⌜ now (out .exit) ≡ tab (lowerCurve (treeIn job) (sumsIn (now (sums .entry))) i) (length (now (out .entry))) ⌝ }
+{
+    let parent = job.parent;
+    let memory = job.memory;
+    let mut a = i;
+    let mut less: u64 = 0;
+    let mut taken = least_delay(job, i);
+    shift(out, sums, taken);
+    while parent[a] != 0 {
+        a = parent[a];
+        less += memory[a];
+        taken = take_in(out, sums, least_delay(job, a), less, taken);
+    }
+}
+
+fn smaller(a: u64, b: u64) -> u64
+    ensures { λ r. ⌜ r ≡ min a b ⌝ }
+{
+    if a < b { a } else { b }
+}
+
+// One number in every slot.
+fn level(out: &mut [u64], value: u64)
+    ensures { λ _. ⌜ now (out .exit) ≡ tab (λ k. value) (length (now (out .entry))) ⌝ }
+{
+    let mut k = 0;
+    while k < out.len() {
+        out[k] = value;
+        k += 1;
+    }
+}
+
+// Each slot k takes T(k - delay) and `plus`, where that is less.
+fn lower_to(out: &mut [u64], sums: &[u64], delay: usize, plus: u64)
+    requires { ⌜ HoldsSums (now sums) × (plus ≤ mostNodes * greatestMemory) ⌝ }
+    ensures { λ _. ⌜ now (out .exit) ≡ tab (lowered (now (out .entry)) (sumsIn (now (sums .entry))) delay plus) (length (now (out .entry))) ⌝ }
+{
+    let last = sums.len() - 1;
+    let mut k = 0;
+    while k < out.len() {
+        out[k] = smaller(out[k], sums[place(k, delay, last)] + plus);
+        k += 1;
+    }
+}
+
+// A node with its ancestors below the root, and the highest of them.
+struct Path {
+    set: u64,
+    top: usize,
+}
+
+fn path_up(job: Job, i: usize) -> Path
+    requires { ⌜ TreeWithin (treeIn job) × ((0 < i) × (i < job .nodes)) ⌝ }
+    ensures { λ r. ⌜ PathOf (treeIn job) i (r .set) (r .top) ⌝ }
+{
+    let mut set = base::with(0, i);
+    let mut a = i;
+    while job.parent[a] != 0 {
+        a = job.parent[a];
+        set = base::with(set, a);
+    }
+    Path { set, top: a }
+}
+
+// The leaves at or below node a.
+fn leaves_at(job: Job, a: usize) -> u64
+    requires { ⌜ TreeWithin (treeIn job) × (a < job .nodes) ⌝ }
+    ensures { λ r. ⌜ ((l : ℕ) → has r l ≡ (leaf (treeIn job) l && atOrBelow (treeIn job) a l)) ⌝ }
+{
+    base::common(job.leaves(), base::with(job.below(a), a))
+}
+
+// The memories of node v and of the nodes above it up to the first one on the path.
+fn reach(job: Job, path: Path, v: usize) -> u64
+    requires { ⌜ TreeWithin (treeIn job) × ((has (path .set) (path .top) ≡ true) × (((0 < path .top) × (path .top < job .nodes)) × (atOrBelow (treeIn job) (path .top) v ≡ true))) ⌝ }
+    ensures { λ r. ⌜ (r ≡ treeIn job .memory v + apart (treeIn job) (has (path .set)) v) × (r ≤ mostNodes * greatestMemory) ⌝ }
+{
+    let mut a = v;
+    let mut total = job.memory[v];
+    while !base::member(path.set, a) {
+        a = job.parent[a];
+        total += job.memory[a];
+    }
+    total
+}
+
+// Whether a delay is no shorter than `delay` and memories are no more than `plus`: such a leaf allows no more at any slot.
+fn covers(least: usize, most: u64, delay: usize, plus: u64) -> bool
+    ensures { λ r. ⌜ r ≡ (leb delay least && leb most plus) ⌝ }
+{
+    if least < delay {
+        return false;
+    }
+    most <= plus
+}
+
+// Whether one of those taken in covers a leaf with this delay and these memories.
+fn covered(
+    delays: &[usize; Job::MOST_NODES],
+    taken: &[u64; Job::MOST_NODES],
+    delay: usize,
+    plus: u64,
+) -> bool
+    ensures { λ r. ⌜ r ≡ some (λ m. leb delay (getD (now (delays .entry)) m 0) && leb (getD (now (taken .entry)) m 0) plus) mostNodes ⌝ }
+{
+    let mut m = 0;
+    while m < Job::MOST_NODES {
+        if covers(delays[m], taken[m], delay, plus) {
+            return true;
+        }
+        m += 1;
+    }
+    false
+}
+
+// A leaf is taken in, with the memories from it up to the path; nothing is to do where one taken in before covers it. `taken` has the
+// memories of the leaves taken in, and T(M) elsewhere.
+fn take_leaf(
+    out: &mut [u64],
+    sums: &[u64],
+    delays: &[usize; Job::MOST_NODES],
+    taken: &mut [u64; Job::MOST_NODES],
+    l: usize,
+    plus: u64,
+)
+    requires { ⌜ HoldsSums (now sums) × (((l < mostNodes) × (plus ≤ mostNodes * greatestMemory)) × Under (now out) (sumsIn (now sums)) (λ m. getD (now delays) m 0) (now taken)) ⌝ }
+    ensures { λ _. ⌜ (now (out .exit) ≡ tab (lowered (now (out .entry)) (sumsIn (now (sums .entry))) (getD (now (delays .entry)) l 0) plus) (length (now (out .entry)))) × Under (now (out .exit)) (sumsIn (now (sums .entry))) (λ m. getD (now (delays .entry)) m 0) (now (taken .exit)) ⌝ }
+{
+    let delay = delays[l];
+    if !covered(delays, taken, delay, plus) {
+        lower_to(out, sums, delay, plus);
+        taken[l] = plus;
+    }
+}
+
+// T(M) in every slot, and then what each leaf allows that shares with node i an ancestor below the root, over all slots before the next.
+fn allow(job: Job, sums: &[u64], i: usize, out: &mut [u64])
+    requires { ⌜ TreeWithin (treeIn job) × (((0 < i) × (i < job .nodes)) × HoldsSums (now sums)) ⌝ }
+    ensures { λ _. ⌜ now (out .exit) ≡ tab (allowed (treeIn job) (sumsIn (now (sums .entry))) (lastIn (now (sums .entry))) i) (length (now (out .entry))) ⌝ }
+{
+    let last = sums.len() - 1;
+    let most = sums[last];
+    let delays = job.delay;
+    let path = path_up(job, i);
+    let mut rest = leaves_at(job, path.top);
+    let mut taken = [most; Job::MOST_NODES];
+    level(out, most);
+    while rest != 0 {
+        let l = base::lowest(rest);
+        take_leaf(out, sums, &delays, &mut taken, l, reach(job, path, l));
+        rest = base::without_lowest(rest);
+    }
+}
+
+// Slot 0 of a row becomes 0.
+fn start_at_zero(out: &mut [u64])
+    ensures { λ _. ⌜ now (out .exit) ≡ set (now (out .entry)) 0 0 ⌝ }
+{
+    if 0 < out.len() {
+        out[0] = 0;
+    }
+}
+
+// upper_i(0), upper_i(1), ..
+pub fn upper_row(job: Job, sums: &[u64], i: usize, out: &mut [u64])
+    requires { ⌜ TreeWithin (treeIn job) × (((0 < i) × (i < job .nodes)) × HoldsSums (now sums)) ⌝ }
+    ensures { λ _. ⌜ now (out .exit) ≡ tab (upperCurve (treeIn job) (sumsIn (now (sums .entry))) (lastIn (now (sums .entry))) i) (length (now (out .entry))) ⌝ }
+{
+    allow(job, sums, i, out);
+    start_at_zero(out);
+}

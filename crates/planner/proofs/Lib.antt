@@ -1,0 +1,3 @@
+pub mod KeepLaws
+pub mod WorkLaws
+pub mod AnswerLaws

@@ -1,0 +1,127 @@
+use mathlib.Core.Path.{_≡_, refl, ap, sym, _∙_}
+use Prim.Native.Nat.{ℕ, _-_, _*_}
+use native.Mathlib.Omega.{arith}
+use lib.ListN.{length}
+use borrow.Author.Needs.{needs}
+use Rattle.planner.proofs.WorkLaws.{closed-plan}
+use Rattle.planner.specs.Work.{Worked}
+use Rattle.curves.specs.Curves.{lastIn}
+use Rattle.job.proofs.TreeLaws.{link-is}
+use Rattle.planner.proofs.with_rows.Statement.{statement}
+use Rattle.planner.proofs.with_rows.Tie as tie
+
+starves-requires : tie.Need-starves-requires
+starves-requires c κs = search needs
+
+same-length : tie.Need-same-length
+same-length c = search needs
+
+same-length-2 : tie.Need-same-length-2
+same-length-2 c = search needs
+
+returns : tie.Need-returns
+unfolding Worked
+returns c = (refl, (c .before .before .before .before .before .starves .ensures .0 (c .if1 .taken), (refl, refl)))
+
+fill-requires : tie.Need-fill-requires
+fill-requires c κs =
+    let st = c .before .before .before .before .before .before .before .before .before .before .before .before .before .before .before .before .before in
+    let s = c .before .before .before .before .before .before .before .before .before .starves in
+    let r = st .pre .0 in (
+      record {
+        tree = r .tree;
+        film = r .film;
+        sums-to = r .sums-to;
+        wide = omega (arith, s .kept .1 .1 .0, r .wide);
+        slots-to = omega (arith, s .kept .1 .1 .0, r .slots-to);
+        same = s .kept .1 .1 .1 .0 ∙ r .same ∙ sym (s .kept .1 .1 .0);
+      },
+      (st .pre .1 .0 ∙ ap (λ (n : ℕ). (st .args .job .nodes - 1) * n) (sym (s .kept .1 .1 .0)), st .pre .1 .1),
+    )
+
+close-rows-requires : tie.Need-close-rows-requires
+close-rows-requires c κs =
+    let st = c .before .before .before .before .before .before .before .before .before .before .before .before .before .before .before .before .before .before .before .before .before .before .before .before .before .before .before .before .before .before .before .before in
+    let f = c .before .before .before .before .before .before .before .before .before .before .before .before .before .before .fill in
+    let s = c .before .before .before .before .before .before .before .before .before .before .before .before .before .before .before .before .before .before .before .before .before .before .before .before .starves in
+    let r = st .pre .0 in
+    let wide : length (f .last .1 .1 .0) ≡ length (st .args .lowers .now) = f .kept .1 .1 .0 ∙ s .kept .1 .1 .0 in (
+      record {
+        some-node = omega (arith, r .tree .nodes-from);
+        nodes-to = omega (arith, r .tree .nodes-to);
+        width-to = omega (arith, r .slots-to);
+        ordered = λ v h. r .tree .parents v (link-is (st .args .job .nodes) v (h .0) (h .1));
+        sized = f .kept .1 .1 .1 .1 .0 ∙ st .pre .1 .0 ∙ ap (λ (n : ℕ). (st .args .job .nodes - 1) * n) (sym wide);
+      },
+      refl,
+    )
+
+sub-t30 : tie.Need-sub-t30
+sub-t30 c = omega (arith, c .before .before .before .before .before .before .before .before .before .before .before .before .before .before .before .before .before .before .before .fill .kept .1 .1 .0, c .before .before .before .before .before .before .before .before .before .before .before .before .before .before .before .before .before .before .before .before .before .before .before .before .before .before .before .before .before .starves .kept .1 .1 .0, c .before .before .before .before .before .before .before .before .before .before .before .before .before .before .before .before .before .before .before .before .before .before .before .before .before .before .before .before .before .before .before .before .before .before .before .before .before .pre .0 .wide)
+
+sub-t33 : tie.Need-sub-t33
+sub-t33 c = c .before .before .before .before .before .before .before .before .before .before .before .before .before .before .before .before .before .before .before .before .before .before .before .before .before .before .before .before .before .before .before .before .before .before .before .before .before .pre .0 .film .some-sum
+
+mul-t34 : tie.Need-mul-t34
+mul-t34 c = omega (arith, c .before .before .before .before .before .before .before .before .before .before .before .before .before .before .before .before .before .before .before .before .before .before .before .before .before .before .before .before .before .before .before .before .before .before .before .before .before .pre .0 .sums-to)
+
+shared-slice-read-t36 : tie.Need-shared-slice-read-t36
+shared-slice-read-t36 c = omega (arith, c .before .before .before .before .before .before .before .before .before .before .before .before .before .before .before .before .before .before .before .before .before .before .before .before .before .before .before .before .before .before .before .before .before .before .before .before .before .before .pre .0 .film .some-sum)
+
+same-length-3 : tie.Need-same-length-3
+same-length-3 c = search needs
+
+same-length-4 : tie.Need-same-length-4
+same-length-4 c = search needs
+
+same-length-5 : tie.Need-same-length-5
+same-length-5 c = search needs
+
+same-length-6 : tie.Need-same-length-6
+same-length-6 c = search needs
+
+returns-2 : tie.Need-returns-2
+unfolding Worked lastIn
+returns-2 c =
+    let st = c .before .before .before .before .before .before .before .before .before .before .before .before .before .before .before .before .before .before .before .before .before .before .before .before .before .before .before .before .before .before .before .before .before .before .before .before .before .before in
+    let f = c .before .before .before .before .before .before .before .before .before .before .before .before .before .before .before .before .before .before .before .before .fill in
+    let s = c .before .before .before .before .before .before .before .before .before .before .before .before .before .before .before .before .before .before .before .before .before .before .before .before .before .before .before .before .before .before .starves in
+    let k = c .before .before .before .before .before .close-rows in
+    let r = st .pre .0 in
+    let w = length (st .args .lowers .now) in
+    let before : length (s .last .1 .1 .0) ≡ w = s .kept .1 .1 .0 in
+    let wide : length (f .last .1 .1 .0) ≡ w = f .kept .1 .1 .0 ∙ before in
+    let lazies = rw before at (f .ensures .0) in
+    let sized : length (k .last .0) ≡ (st .args .job .nodes - 1) * w = k .kept .0 ∙ f .kept .1 .1 .1 .1 .0 ∙ st .pre .1 .0 in (
+      ap (λ (n : ℕ). n - 1) wide,
+      (
+        refl,
+        (
+          s .ensures .1 (c .before .before .before .before .before .before .before .before .before .before .before .before .before .before .before .before .before .before .before .before .before .before .before .before .before .if1 .left),
+          (
+            closed-plan (st .args .job) (st .args .sums .now) (r .tree) w (f .last .1 .1 .1 .1 .0) (k .last .0) lazies sized (rw wide at (k .ensures)),
+            rw before at (f .ensures .1),
+          ),
+        ),
+      ),
+    )
+
+pub with-rows-spec : {M : Type 1} → statement M
+with-rows-spec =
+    tie.close
+    (tie.spec
+    starves-requires
+    same-length
+    same-length-2
+    returns
+    fill-requires
+    close-rows-requires
+    sub-t30
+    sub-t33
+    mul-t34
+    shared-slice-read-t36
+    same-length-3
+    same-length-4
+    same-length-5
+    same-length-6
+    returns-2)

@@ -1,0 +1,68 @@
+-- What the planner's functions give: the answer's numbers, the plan's rows in one list, and what the memory question says in each case.
+use mathlib.Core.Bool.{cond, _&&_}
+use mathlib.Core.List.{List, []}
+use mathlib.Core.Path.{_≡_}
+use mathlib.Core.Logic.{_⊎_}
+use Prim.Native.Nat.{ℕ, suc, _+_, _-_, _*_}
+use lib.Dec.{eqb}
+use lib.ListN.{length, take, drop}
+use Rattle.base.specs.Table.{tab}
+use Rattle.job.specs.Tree.{JobData, link, T, H, planLength}
+use Rattle.job.specs.Bytes.{jobOf}
+use Rattle.job.specs.Refusal.{refusal}
+use Rattle.smoothing.specs.Row.{peak}
+use Rattle.smoothing.specs.Lists.{rowsIn}
+use Rattle.planner.specs.Rules.{Keeps, Best}
+use Rattle.planner.specs.declared.Answer.{Answer}
+use Rattle.planner.specs.declared.Answer.the-variants.{Refused, Planned}
+
+-- document 01's number, H and T(M) of each answer: on a refusal the other results are 0
+abbrev pub numberOf : Answer → ℕ
+numberOf (Refused e) = e
+numberOf (Planned last total) = 0
+
+abbrev pub lastOf : Answer → ℕ
+lastOf (Refused e) = 0
+lastOf (Planned last total) = last
+
+abbrev pub totalOf : Answer → ℕ
+totalOf (Refused e) = 0
+totalOf (Planned last total) = total
+
+-- the row of link i as that part of the plan; an empty part where a check before 11 refuses the job, no such link exists or the plan's
+-- length is wrong
+unfoldable pub rowOf : List ℕ → List ℕ → ℕ → List ℕ
+rowOf s plan i =
+    let j = jobOf s in
+    cond (eqb (refusal s) 0 && (link (j .tree .n) i && eqb (length plan) (planLength j)))
+    (take (H j + 1) (drop ((i - 1) * (H j + 1)) plan))
+    []
+
+-- the first of refusals 1 to 11 that applies, with outputs of these lengths; 0 where none does
+unfoldable pub earlyRefusal : List ℕ → ℕ → ℕ → ℕ
+earlyRefusal s planned peaks =
+    let j = jobOf s in
+    cond (eqb (refusal s) 0)
+    (cond (eqb planned (planLength j) && eqb peaks (j .tree .n - 1)) 0 11)
+    (refusal s)
+
+-- the plan that a list of rows holds: link 1's row first
+abbrev pub planIn : JobData → List ℕ → ℕ → ℕ → ℕ
+planIn j l i k = rowsIn (H j + 1) l i k
+
+-- The memory question's answer e to bytes s, with plan and peaks before and after it.
+-- Refused: plan and peaks are as before; e is the first of 1 to 11 that applies, or none of these does, e is 12 and no plan keeps the rules.
+-- Planned: none of 1 to 11 applies; H and T(M); the plan given is the best, and the peaks given are those of its rows.
+unfoldable pub Answers : Answer → List ℕ → List ℕ → List ℕ → List ℕ → List ℕ → Type 0
+Answers (Refused e) s plan₀ plan₁ peaks₀ peaks₁ =
+    let early = earlyRefusal s (length plan₀) (length peaks₀) in
+    (plan₁ ≡ plan₀)
+    × ((peaks₁ ≡ peaks₀)
+    × (((e ≡ early) × (early ≡ 0 → ⊥)) ⊎ ((early ≡ 0) × ((e ≡ 12) × ((S : ℕ → ℕ → ℕ) → Keeps (jobOf s) S → ⊥)))))
+Answers (Planned last total) s plan₀ plan₁ peaks₀ peaks₁ =
+    let j = jobOf s in
+    (earlyRefusal s (length plan₀) (length peaks₀) ≡ 0)
+    × ((last ≡ H j)
+    × ((total ≡ T j (j .M))
+    × ((length plan₁ ≡ length plan₀)
+    × (Best j (planIn j plan₁) × (peaks₁ ≡ tab (λ i. peak (H j) (planIn j plan₁ (suc i))) (j .tree .n - 1))))))

@@ -1,0 +1,70 @@
+-- What the memory question's inner functions are handed and give, in terms of the curves and of the theory's plan.
+use mathlib.Core.Bool.{true}
+use mathlib.Core.List.{List}
+use mathlib.Core.Path.{_≡_}
+use Prim.Native.Nat.{ℕ, suc, _+_, _-_, _≤_, _<_}
+use lib.ListN.{length}
+use Rattle.base.specs.Table.{tab, rowsOf}
+use Rattle.job.specs.Limits.{mostFrames, mostSlots}
+use Rattle.job.specs.Tree.{Tree, TreeWithin, leaf, greatestDelay}
+use Rattle.job.specs.Read.{treeIn}
+use Rattle.job.specs.declared.Job.{Job}
+use Rattle.smoothing.specs.Row.{lazy}
+use Rattle.smoothing.specs.Plan.{Problem, lower, linkPeak, plan}
+use Rattle.curves.specs.Curves.{lowerCurve, upperCurve, problem, sumsIn, lastIn, HoldsSums}
+use Rattle.planner.specs.declared.Answer.{Answer}
+use Rattle.planner.specs.declared.Answer.the-variants.{Refused, Planned}
+
+-- a job's struct, its sums, and two rows of the same width to work in
+pub record Ready (job : Job) (sums lowers uppers : List ℕ) : Type 0 where
+  pub tree : TreeWithin (treeIn job)
+  pub film : HoldsSums sums
+  pub sums-to : length sums ≤ mostFrames + 1
+  pub wide : 0 < length lowers
+  pub slots-to : length lowers ≤ mostSlots
+  pub same : length uppers ≡ length lowers
+
+-- at leaf i lower is nowhere above upper, over slots 0 to w - 1
+abbrev pub Fed : Tree → (ℕ → ℕ) → ℕ → ℕ → ℕ → Type 0
+Fed t T top w i = (k : ℕ) → k < w → lowerCurve t T i k ≤ upperCurve t T top i k
+
+-- some leaf starves: at some slot its lower curve exceeds its upper curve
+abbrev pub Starves : Tree → (ℕ → ℕ) → ℕ → ℕ → Type 0
+Starves t T top w = (i : ℕ) × (leaf t i ≡ true) × (k : ℕ) × (k < w) × (upperCurve t T top i k < lowerCurve t T i k)
+
+-- no leaf does
+abbrev pub AllFed : Tree → (ℕ → ℕ) → ℕ → ℕ → Type 0
+AllFed t T top w = (i : ℕ) → leaf t i ≡ true → Fed t T top w i
+
+-- the theory's problem of a struct with its sums, over slots 0 to w - 1
+abbrev pub problemIn : Job → List ℕ → ℕ → Problem
+problemIn job sums w = problem (treeIn job) (sumsIn sums) (lastIn sums) (w - 1)
+
+-- the lazy row of link i at its least peak
+abbrev pub lazyRowOf : Problem → ℕ → ℕ → List ℕ
+lazyRowOf P w i = tab (lazy (P .H) (linkPeak P (suc i)) (lower P (suc i))) w
+
+-- the lazy rows of all links, and the rows of the plan, link 1's first
+abbrev pub lazyRowsOf : Problem → ℕ → ℕ → List ℕ
+lazyRowsOf P w m = rowsOf (lazyRowOf P w) m
+
+abbrev pub planRowsOf : Problem → ℕ → ℕ → List ℕ
+planRowsOf P w m = rowsOf (λ i. tab (plan P (suc i)) w) m
+
+-- the least peaks of all links
+abbrev pub peaksOf : Problem → ℕ → List ℕ
+peaksOf P m = tab (λ i. linkPeak P (suc i)) m
+
+-- how many slots a row of this job has: H + 1
+abbrev pub widthOf : Job → ℕ
+widthOf job = job .frames + greatestDelay (treeIn job) + 1
+
+-- What the work on an accepted job gives: a starving leaf and nothing changed, or the theory's plan with its peaks.
+unfoldable pub Worked : Answer → Job → List ℕ → ℕ → List ℕ → List ℕ → List ℕ → List ℕ → Type 0
+Worked (Refused e) job sums w plan₀ plan₁ peaks₀ peaks₁ =
+    (e ≡ 12) × (Starves (treeIn job) (sumsIn sums) (lastIn sums) w × ((plan₁ ≡ plan₀) × (peaks₁ ≡ peaks₀)))
+Worked (Planned last total) job sums w plan₀ plan₁ peaks₀ peaks₁ =
+    (last ≡ w - 1)
+    × ((total ≡ lastIn sums)
+    × (AllFed (treeIn job) (sumsIn sums) (lastIn sums) w
+    × ((plan₁ ≡ planRowsOf (problemIn job sums w) w (job .nodes - 1)) × (peaks₁ ≡ peaksOf (problemIn job sums w) (job .nodes - 1)))))

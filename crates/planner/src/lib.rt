@@ -1,0 +1,214 @@
+// The memory question: from memories to what every link sends in every slot; and the row of one link.
+// Definitions to believe: specs/Rules (the rules of a plan and the best plan), specs/Answer (what the functions below give).
+ghost use mathlib.Core.Bool.{true, false};
+ghost use mathlib.Core.List.{_++_};
+ghost use mathlib.Core.Path.{_≡_};
+ghost use Prim.Native.Nat.{ℕ, suc, _+_, _-_, _*_, _≤_, _<_};
+ghost use lib.ListN.{length, take, drop, set};
+ghost use Rattle.base.specs.Table.{tab, rowsOf};
+ghost use Rattle.job.specs.Read.{treeIn};
+ghost use Rattle.job.specs.Tree.{TreeWithin};
+ghost use Rattle.smoothing.specs.Lists.{familyIn};
+ghost use Rattle.smoothing.specs.Row.{leastPeak, lazy};
+ghost use Rattle.smoothing.specs.Plan.{linkPeak};
+ghost use Rattle.rows.specs.Search.{Searchable};
+ghost use Rattle.curves.specs.Curves.{upperCurve, sumsIn, lastIn, HoldsSums};
+ghost use Rattle.planner.specs.Work.{Ready, Starves, AllFed, problemIn, lazyRowOf, lazyRowsOf, planRowsOf, peaksOf, widthOf, Worked};
+ghost use Rattle.planner.specs.Answer.{rowOf, Answers};
+ghost use Rattle.job.specs.Limits.{mostFrames, mostSlots};
+ghost use Rattle.job.specs.Bytes.{frameCount, jobOf};
+ghost use Rattle.job.specs.Tree as tree;
+ghost use Rattle.job.proofs.RefusalLaws.{Accepted};
+use job::Job;
+
+// The answer of the memory question: a refusal by its number, or H and T(M).
+pub enum Answer {
+    Refused(u64),
+    Planned(u64, u64),
+}
+
+// The search for a starving leaf, which stops at the first leaf and slot found. The two rows are room to work in.
+fn starves(job: Job, sums: &[u64], lowers: &mut [u64], uppers: &mut [u64]) -> bool
+    requires { ⌜ Ready job (now sums) (now lowers) (now uppers) ⌝ }
+    ensures { λ r. ⌜ (r ≡ true → Starves (treeIn job) (sumsIn (now (sums .entry))) (lastIn (now (sums .entry))) (length (now (lowers .entry)))) ⌝ }
+    ensures { λ r. ⌜ (r ≡ false → AllFed (treeIn job) (sumsIn (now (sums .entry))) (lastIn (now (sums .entry))) (length (now (lowers .entry)))) ⌝ }
+{
+    let mut rest = job.leaves();
+    let mut found = false;
+    'search: while rest != 0 {
+        let i = base::lowest(rest);
+        curves::lower_row(job, sums, i, lowers);
+        curves::upper_row(job, sums, i, uppers);
+        let mut k = 0;
+        while k < lowers.len() {
+            if lowers[k] > uppers[k] {
+                found = true;
+                break 'search;
+            }
+            k += 1;
+        }
+        rest = base::without_lowest(rest);
+    }
+    found
+}
+
+// The least peak between two rows, with the lazy row at that peak.
+fn fill_row(lowers: &[u64], uppers: &[u64], row: &mut [u64]) -> u64
+    requires { ⌜ Searchable (now lowers) (now uppers) × (length (now row) ≡ length (now lowers)) ⌝ }
+    ensures { λ r. ⌜ r ≡ leastPeak (length (now (lowers .entry)) - 1) (familyIn (now (lowers .entry))) (familyIn (now (uppers .entry))) ⌝ }
+    ensures { λ r. ⌜ now (row .exit) ≡ tab (lazy (length (now (lowers .entry)) - 1) r (familyIn (now (lowers .entry)))) (length (now (lowers .entry))) ⌝ }
+{
+    let peak = rows::least_peak(lowers, uppers);
+    rows::lazy_row(lowers, peak, row);
+    peak
+}
+
+// One link: its least peak, and its lazy row at that peak as its part of the plan.
+fn fill_link(
+    job: Job,
+    sums: &[u64],
+    v: usize,
+    lowers: &mut [u64],
+    uppers: &mut [u64],
+    row: &mut [u64],
+) -> u64
+    requires { ⌜ Ready job (now sums) (now lowers) (now uppers) × (((0 < v) × (v < job .nodes)) × (length (now row) ≡ length (now lowers))) ⌝ }
+    ensures { λ r. ⌜ r ≡ linkPeak (problemIn job (now (sums .entry)) (length (now (lowers .entry)))) v ⌝ }
+    ensures { λ _. ⌜ now (row .exit) ≡ lazyRowOf (problemIn job (now (sums .entry)) (length (now (lowers .entry)))) (length (now (lowers .entry))) (v - 1) ⌝ }
+{
+    curves::lower_row(job, sums, v, lowers);
+    curves::upper_row(job, sums, v, uppers);
+    fill_row(lowers, uppers, row)
+}
+
+// Every link, one after the other, each into its part of the plan; the rows before and after it are kept.
+fn fill(
+    job: Job,
+    sums: &[u64],
+    lowers: &mut [u64],
+    uppers: &mut [u64],
+    plan: &mut [u64],
+    peaks: &mut [u64],
+)
+    requires { ⌜ Ready job (now sums) (now lowers) (now uppers) × ((length (now plan) ≡ (job .nodes - 1) * length (now lowers)) × (length (now peaks) ≡ job .nodes - 1)) ⌝ }
+    ensures { λ _. ⌜ now (plan .exit) ≡ lazyRowsOf (problemIn job (now (sums .entry)) (length (now (lowers .entry)))) (length (now (lowers .entry))) (job .nodes - 1) ⌝ }
+    ensures { λ _. ⌜ now (peaks .exit) ≡ peaksOf (problemIn job (now (sums .entry)) (length (now (lowers .entry)))) (job .nodes - 1) ⌝ }
+{
+    let links = job.nodes - 1;
+    let width = lowers.len();
+    let mut i = 0;
+    let mut start = 0;
+    while i < links {
+        let end = start + width;
+        peaks[i] = fill_link(job, sums, i + 1, lowers, uppers, &mut plan[start..end]);
+        start = end;
+        i += 1;
+    }
+}
+
+// The work on an accepted job, with two rows to work in.
+fn with_rows(
+    job: Job,
+    sums: &[u64],
+    lowers: &mut [u64],
+    uppers: &mut [u64],
+    plan: &mut [u64],
+    peaks: &mut [u64],
+) -> Answer
+    requires { ⌜ Ready job (now sums) (now lowers) (now uppers) × ((length (now plan) ≡ (job .nodes - 1) * length (now lowers)) × (length (now peaks) ≡ job .nodes - 1)) ⌝ }
+    ensures { λ r. ⌜ Worked r job (now (sums .entry)) (length (now (lowers .entry))) (now (plan .entry)) (now (plan .exit)) (now (peaks .entry)) (now (peaks .exit)) ⌝ }
+{
+    if starves(job, sums, lowers, uppers) {
+        return Answer::Refused(12);
+    }
+    fill(job, sums, lowers, uppers, plan, peaks);
+    let width = lowers.len();
+    let parent = job.parent;
+    let memory = job.memory;
+    rows::close_rows(plan, lowers, &parent, &memory, job.nodes, width);
+    Answer::Planned((width - 1) as u64, sums[sums.len() - 1])
+}
+
+// The sums of the longest film, and a row with room for the most slots.
+fn sums_room() -> [u64; Job::MOST_FRAMES + 1]
+    ensures { λ r. ⌜ mostFrames + 1 ≡ length r ⌝ }
+{
+    [0u64; Job::MOST_FRAMES + 1]
+}
+
+fn row_room() -> [u64; Job::MOST_SLOTS]
+    ensures { λ r. ⌜ mostSlots ≡ length r ⌝ }
+{
+    [0u64; Job::MOST_SLOTS]
+}
+
+// The work on an accepted job, with its sums.
+fn with_sums(job: Job, sums: &[u64], plan: &mut [u64], peaks: &mut [u64]) -> Answer
+    requires { ⌜ TreeWithin (treeIn job) × ((job .frames ≤ mostFrames) × ((HoldsSums (now sums) × (length (now sums) ≤ mostFrames + 1)) × ((length (now plan) ≡ (job .nodes - 1) * widthOf job) × (length (now peaks) ≡ job .nodes - 1)))) ⌝ }
+    ensures { λ r. ⌜ Worked r job (now (sums .entry)) (widthOf job) (now (plan .entry)) (now (plan .exit)) (now (peaks .entry)) (now (peaks .exit)) ⌝ }
+{
+    let width = job.last_slot() + 1;
+    let mut lowers = row_room();
+    let mut uppers = row_room();
+    with_rows(
+        job,
+        sums,
+        &mut lowers[0..width],
+        &mut uppers[0..width],
+        plan,
+        peaks,
+    )
+}
+
+// The work on an accepted job.
+fn with_job(bytes: &[u8], job: Job, plan: &mut [u64], peaks: &mut [u64]) -> Answer
+    requires { ⌜ Accepted (now bytes) job × ((length (now plan) ≡ (job .nodes - 1) * widthOf job) × (length (now peaks) ≡ job .nodes - 1)) ⌝ }
+    ensures { λ r. ⌜ Worked r job (tab (tree.T (jobOf (now (bytes .entry)))) (frameCount (now (bytes .entry)) + 1)) (widthOf job) (now (plan .entry)) (now (plan .exit)) (now (peaks .entry)) (now (peaks .exit)) ⌝ }
+{
+    let count = job.frames + 1;
+    let mut sums = sums_room();
+    job::sums(bytes, &mut sums[0..count]);
+    with_sums(job, &sums[0..count], plan, peaks)
+}
+
+// The memory question.
+pub fn memory_question(bytes: &[u8], plan: &mut [u64], peaks: &mut [u64]) -> Answer
+    ensures { λ r. ⌜ Answers r (now (bytes .entry)) (now (plan .entry)) (now (plan .exit)) (now (peaks .entry)) (now (peaks .exit)) ⌝ }
+{
+    let read = job::read(bytes);
+    if read.refusal != 0 {
+        return Answer::Refused(read.refusal);
+    }
+    let job = read.job;
+    if plan.len() != job.plan_length() {
+        return Answer::Refused(11);
+    }
+    if peaks.len() != job.nodes - 1 {
+        return Answer::Refused(11);
+    }
+    with_job(bytes, job, plan, peaks)
+}
+
+// The row of link i as that part of the plan itself.
+pub fn row_of<'a, 'b>(bytes: &'b [u8], plan: &'a [u64], i: usize) -> &'a [u64]
+    ensures { λ r. ⌜ now r ≡ rowOf (now (bytes .entry)) (now (plan .entry)) i ⌝ }
+{
+    let read = job::read(bytes);
+    if read.refusal != 0 {
+        return &plan[0..0];
+    }
+    let job = read.job;
+    if i == 0 {
+        return &plan[0..0];
+    }
+    if job.nodes <= i {
+        return &plan[0..0];
+    }
+    if plan.len() != job.plan_length() {
+        return &plan[0..0];
+    }
+    let width = job.last_slot() + 1;
+    let a = (i - 1) * width;
+    let e = a + width;
+    &plan[a..e]
+}

@@ -1,0 +1,22 @@
+use mathlib.Core.Path.{_∙_}
+use Rattle.rows.proofs.ClosingLaws.{finished}
+use borrow.Author.Needs.{needs}
+use Rattle.rows.proofs.finish_row.Statement.{statement}
+use Rattle.rows.proofs.finish_row.Tie as tie
+use Rattle.rows.proofs.finish_row.Reads as reads
+use Rattle.rows.proofs.finish_row.Lts as lts
+use Rattle.rows.proofs.raise_row_less.Reads as raise-row-less-reads
+
+raise-row-less-requires : tie.Need-raise-row-less-requires
+raise-row-less-requires c κs = search needs
+
+same-length : tie.Need-same-length
+same-length c = search needs
+
+returns : tie.Need-returns
+returns c =
+    let equal = c .before .before .raise-row-less .ensures in
+    (equal, λ T F v due. equal ∙ finished T F v _ _ _ due)
+
+pub finish-row-spec : {M : Type 1} → statement M
+finish-row-spec = tie.close (tie.spec raise-row-less-requires same-length returns)

@@ -1,0 +1,283 @@
+// Rows of numbers, one for each slot: peaks, lazy rows, the search for a least peak, and rows closed over a tree of links.
+// It knows no job: only slices, and the theory in `smoothing`. Definitions to believe: specs/Row, Search, Closing.
+ghost use mathlib.Core.Path.{_≡_};
+ghost use mathlib.Core.Bool.{cond};
+ghost use Prim.Native.Nat.{ℕ, _+_, _-_, _*_, _≤_, _<_, max, min};
+ghost use lib.ListN.{length, getD};
+ghost use Rattle.base.specs.Table.{tab};
+ghost use Rattle.smoothing.specs.Row.{peak, lazy, ceilDiv, leastPeak};
+ghost use Rattle.smoothing.specs.Newton as newton;
+ghost use Rattle.smoothing.specs.Lists.{familyIn, rowsIn};
+ghost use Rattle.smoothing.specs.Tree.{Tree, passUp, passDown, closeDown, close};
+ghost use Rattle.rows.specs.Closing.{treeFrom, slotIn, withPart, Closable, Due};
+ghost use Rattle.job.specs.Limits.{greatestTotal};
+ghost use Rattle.rows.specs.Row.{rowIn};
+ghost use Rattle.rows.specs.Search.{searchIn, Searchable};
+use job::Job;
+
+fn greater(a: u64, b: u64) -> u64
+    ensures { λ r. ⌜ r ≡ max a b ⌝ }
+{
+    if a < b { b } else { a }
+}
+
+fn less(a: u64, b: u64) -> u64
+    ensures { λ r. ⌜ r ≡ a - b ⌝ }
+{
+    if a < b { 0 } else { a - b }
+}
+
+// The greatest rise of a row in one slot.
+pub fn peak_of(row: &[u64]) -> u64
+    ensures { λ r. ⌜ r ≡ peak (length (now (row .entry)) - 1) (rowIn (now (row .entry))) ⌝ }
+{
+    let mut top: u64 = 0;
+    let mut k = 1;
+    while k < row.len() {
+        top = greater(top, less(row[k], row[k - 1]));
+        k += 1;
+    }
+    top
+}
+
+// The lazy row of `lower` at the rate q, filled from its end.
+pub fn lazy_row(lower: &[u64], q: u64, out: &mut [u64])
+    requires { ⌜ (0 < length (now lower)) × (length (now out) ≡ length (now lower)) ⌝ }
+    ensures { λ _. ⌜ now (out .exit) ≡ tab (lazy (length (now (lower .entry)) - 1) q (rowIn (now (lower .entry)))) (length (now (lower .entry))) ⌝ }
+{
+    let mut k = lower.len();
+    let mut next = lower[k - 1];
+    while k > 0 {
+        k -= 1;
+        next = greater(lower[k], less(next, q));
+        out[k] = next;
+    }
+}
+
+// Each number of `out` raised to that of `from` less the amount.
+pub fn raise_row_less(from: &[u64], amount: u64, out: &mut [u64])
+    requires { ⌜ length (now from) ≡ length (now out) ⌝ }
+    ensures { λ _. ⌜ now (out .exit) ≡ tab (λ k. max (rowIn (now (out .entry)) k) (rowIn (now (from .entry)) k - amount)) (length (now (out .entry))) ⌝ }
+{
+    let mut k = 0;
+    while k < out.len() {
+        out[k] = greater(out[k], less(from[k], amount));
+        k += 1;
+    }
+}
+
+// Each number of `out` raised to that of `from`.
+pub fn raise_row(from: &[u64], out: &mut [u64])
+    requires { ⌜ length (now from) ≡ length (now out) ⌝ }
+    ensures { λ _. ⌜ now (out .exit) ≡ tab (λ k. max (rowIn (now (out .entry)) k) (rowIn (now (from .entry)) k)) (length (now (out .entry))) ⌝ }
+{
+    raise_row_less(from, 0, out);
+}
+
+fn lesser(a: u64, b: u64) -> u64
+    ensures { λ r. ⌜ r ≡ min a b ⌝ }
+{
+    if b < a { b } else { a }
+}
+
+fn choose(test: bool, a: u64, b: u64) -> u64
+    ensures { λ r. ⌜ r ≡ cond test a b ⌝ }
+{
+    if test { a } else { b }
+}
+
+// x / d rounded up.
+fn ceil_div(x: u64, d: u64) -> u64
+    requires { ⌜ (x ≤ greatestTotal) × ((0 < d) × (d ≤ greatestTotal)) ⌝ }
+    ensures { λ r. ⌜ r ≡ ceilDiv x d ⌝ }
+{
+    (x + (d - 1)) / d
+}
+
+// Where a pass of the search for a least peak stands: specs/Newton of `smoothing` says what each number is.
+pub struct Search {
+    pub reach: u64,
+    pub gap: u64,
+    pub excess: u64,
+    pub span: u64,
+}
+
+impl Search {
+    // One look at the peak p: from a slot with this upper value to the next, which has this lower value.
+    pub fn look(self, lower: u64, upper: u64, p: u64) -> Search
+        requires { ⌜ (self .gap ≤ greatestTotal) × ((upper ≤ greatestTotal) × (p ≤ greatestTotal)) ⌝ }
+        ensures { λ r. ⌜ searchIn r ≡ newton.look (λ _. lower) (λ _. upper) p 0 (searchIn self) ⌝ }
+    {
+        let nearer = upper < self.reach;
+        let reach = lesser(self.reach, upper) + p;
+        let gap = choose(nearer, 1, self.gap + 1);
+        let here = less(lower, reach);
+        let found = self.excess < here;
+        let excess = greater(self.excess, here);
+        let span = choose(found, gap, self.span);
+        Search {
+            reach,
+            gap,
+            excess,
+            span,
+        }
+    }
+}
+
+// A pass over the slots of two rows at the peak p.
+fn pass(lower: &[u64], upper: &[u64], p: u64) -> Search
+    requires { ⌜ Searchable (now lower) (now upper) × (p ≤ greatestTotal) ⌝ }
+    ensures { λ r. ⌜ searchIn r ≡ newton.pass (rowIn (now (lower .entry))) (rowIn (now (upper .entry))) p (length (now (lower .entry)) - 1) ⌝ }
+{
+    let last = lower.len() - 1;
+    let mut s = Search {
+        reach: upper[0],
+        gap: 0,
+        excess: 0,
+        span: 0,
+    };
+    let mut k = 0;
+    while k < last {
+        s = s.look(lower[k + 1], upper[k], p);
+        k += 1;
+    }
+    s
+}
+
+// The least peak between two rows, by Newton's search: passes at higher and higher peaks, until one finds no excess.
+pub fn least_peak(lower: &[u64], upper: &[u64]) -> u64
+    requires { ⌜ Searchable (now lower) (now upper) ⌝ }
+    ensures { λ r. ⌜ r ≡ leastPeak (length (now (lower .entry)) - 1) (rowIn (now (lower .entry))) (rowIn (now (upper .entry))) ⌝ }
+{
+    let mut p: u64 = 0;
+    let mut s = pass(lower, upper, p);
+    while s.excess > 0 {
+        p += ceil_div(s.excess, s.span);
+        s = pass(lower, upper, p);
+    }
+    p
+}
+
+// Of two rows in one list, the one from place a on raised to the later one from place b on.
+fn raise_within(plan: &mut [u64], a: usize, b: usize, width: usize)
+    requires { ⌜ (a + width ≤ b) × (b + width ≤ length (now plan)) ⌝ }
+    ensures { λ _. ⌜ now (plan .exit) ≡ withPart (λ k. max (getD (now (plan .entry)) (a + k) 0) (getD (now (plan .entry)) (b + k) 0)) a width (now (plan .entry)) ⌝ }
+{
+    let mut k = 0;
+    while k < width {
+        plan[a + k] = greater(plan[a + k], plan[b + k]);
+        k += 1;
+    }
+}
+
+// The pass up: each row, from the last on, into its parent's, unless that is the root.
+fn pass_up(plan: &mut [u64], parent: &[usize; Job::MOST_NODES], nodes: usize, width: usize)
+    requires { ⌜ Closable (now plan) (now parent) nodes width ⌝ }
+    ensures { λ _. ⌜ ((k : ℕ) → k < width → slotIn width (now (plan .exit)) k ≡ passUp (familyIn (now (parent .entry))) (λ v x y. max x y) (nodes - 1) (slotIn width (now (plan .entry)) k)) ⌝ }
+{
+    let mut v = nodes;
+    while v > 1 {
+        v -= 1;
+        let u = parent[v];
+        if u > 0 {
+            let a = (u - 1) * width;
+            let b = (v - 1) * width;
+            raise_within(plan, a, b, width);
+        }
+    }
+}
+
+fn clear(out: &mut [u64])
+    ensures { λ _. ⌜ now (out .exit) ≡ tab (λ _. 0) (length (now (out .entry))) ⌝ }
+{
+    let mut k = 0;
+    while k < out.len() {
+        out[k] = 0;
+        k += 1;
+    }
+}
+
+fn copy(from: &[u64], out: &mut [u64])
+    requires { ⌜ length (now out) ≡ length (now from) ⌝ }
+    ensures { λ _. ⌜ now (out .exit) ≡ now (from .entry) ⌝ }
+{
+    let mut k = 0;
+    while k < out.len() {
+        out[k] = from[k];
+        k += 1;
+    }
+}
+
+// The row of link u; that of the root has 0 in every slot.
+fn copy_row(plan: &[u64], u: usize, width: usize, out: &mut [u64])
+    requires { ⌜ (u * width ≤ length (now plan)) × (length (now out) ≡ width) ⌝ }
+    ensures { λ _. ⌜ now (out .exit) ≡ tab (rowsIn width (now (plan .entry)) u) width ⌝ }
+{
+    if u == 0 {
+        clear(out);
+        return;
+    }
+    let a = (u - 1) * width;
+    let e = a + width;
+    copy(&plan[a..e], out);
+}
+
+// The last to touch a link's row, which comes as the pass up left it. `above` is a copy of the parent's closed row, 0 in every slot
+// where the parent is the root, and `memory` the parent's memory.
+pub fn finish_row(above: &[u64], memory: u64, row: &mut [u64])
+    requires { ⌜ length (now above) ≡ length (now row) ⌝ }
+    ensures raised { λ _. ⌜ now (row .exit) ≡ tab (λ k. max (rowIn (now (row .entry)) k) (rowIn (now (above .entry)) k - memory)) (length (now (row .entry))) ⌝ }
+    ensures closed { λ _. ⌜ ((T : Tree) (F : ℕ → ℕ → ℕ) (v : ℕ) → Due T F v (now (row .entry)) (now (above .entry)) memory → now (row .exit) ≡ tab (λ k. close T (F k) v) (length (now (row .entry)))) ⌝ }
+{
+    raise_row_less(above, memory, row);
+}
+
+// One turn of the pass down: the row of link v, with a copy of the finished row of its parent u. The other rows are kept.
+fn close_row(plan: &mut [u64], above: &mut [u64], u: usize, v: usize, amount: u64, width: usize)
+    requires { ⌜ (u < v) × ((v * width ≤ length (now plan)) × (length (now above) ≡ width)) ⌝ }
+    ensures { λ _. ⌜ now (plan .exit) ≡ withPart (λ k. max (rowsIn width (now (plan .entry)) v k) (rowsIn width (now (plan .entry)) u k - amount)) ((v - 1) * width) width (now (plan .entry)) ⌝ }
+{
+    copy_row(plan, u, width, above);
+    let a = (v - 1) * width;
+    let e = a + width;
+    finish_row(above, amount, &mut plan[a..e]);
+}
+
+// The pass down: each row, from the first on, raised to its parent's less the parent's memory. `above` is for the copies: any numbers
+// before and after.
+fn pass_down(
+    plan: &mut [u64],
+    above: &mut [u64],
+    parent: &[usize; Job::MOST_NODES],
+    memory: &[u64; Job::MOST_NODES],
+    nodes: usize,
+    width: usize,
+)
+    requires { ⌜ Closable (now plan) (now parent) nodes width × (length (now above) ≡ width) ⌝ }
+    ensures { λ _. ⌜ ((k : ℕ) → k < width → slotIn width (now (plan .exit)) k ≡ passDown (familyIn (now (parent .entry))) (closeDown (treeFrom nodes (now (parent .entry)) (now (memory .entry)))) (nodes - 1) (slotIn width (now (plan .entry)) k)) ⌝ }
+{
+    let mut v = 1;
+    while v < nodes {
+        let u = parent[v];
+        let amount = memory[u];
+        close_row(plan, above, u, v, amount, width);
+        v += 1;
+    }
+}
+
+// A plan with a row of `width` numbers for each link, link 1's first, closed at every slot. The lent row is for the copies: any numbers
+// before and after.
+pub fn close_rows(
+    plan: &mut [u64],
+    lent: &mut [u64],
+    parent: &[usize; Job::MOST_NODES],
+    memory: &[u64; Job::MOST_NODES],
+    nodes: usize,
+    width: usize,
+)
+    requires { ⌜ Closable (now plan) (now parent) nodes width × (length (now lent) ≡ width) ⌝ }
+    ensures { λ _. ⌜ ((k : ℕ) → k < width → slotIn width (now (plan .exit)) k ≡ close (treeFrom nodes (now (parent .entry)) (now (memory .entry))) (slotIn width (now (plan .entry)) k)) ⌝ }
+{
+    pass_up(plan, parent, nodes, width);
+    pass_down(plan, lent, parent, memory, nodes, width);
+}

@@ -111,7 +111,7 @@ module _ (s : List ℕ) (job : Job) (acc : Accepted s job) where
   nodes-is : job .nodes ≡ j .tree .n
   nodes-is = ap (λ (t : Tree). t .n) (acc .held)
 
-  module _ (plan₀ plan₁ peaks₀ peaks₁ : List ℕ) (long : length plan₀ ≡ planLength (jobOf s)) (short : length peaks₀ ≡ jobOf s .tree .n - 1) (kept : length plan₁ ≡ length plan₀) where
+  module _ (plan₀ plan₁ peaks₀ peaks₁ : List ℕ) (long : length plan₀ ≡ planLength (jobOf s)) (short : length peaks₀ ≡ jobOf s .tree .n - 1) where
     rows-is : plan₁ ≡ planRowsOf (problem (treeIn job) (sumsIn sums) (lastIn sums) (widthOf job - 1)) (widthOf job) (job .nodes - 1)
         → plan₁ ≡ planRowsOf (problemOf j) (H j + 1) (j .tree .n - 1)
     rows-is e = rw (same-problem, width-is, nodes-is) at e
@@ -138,7 +138,7 @@ module _ (s : List ℕ) (job : Job) (acc : Accepted s job) where
             omega (arith, w .0, width-is),
             (
               w .1 .0 ∙ last-of j,
-              (kept, (best-given j (acc .within) plan₁ rows fed, peaks-is (w .1 .1 .1 .1) ∙ peaks-given j (acc .within) plan₁ rows fed)),
+              (rows, (best-given j (acc .within) plan₁ rows fed, peaks-is (w .1 .1 .1 .1) ∙ peaks-given j (acc .within) plan₁ rows fed)),
             ),
           ),
         )

@@ -6,12 +6,14 @@ use mathlib.Core.Logic.{_⊎_}
 use Prim.Native.Nat.{ℕ, suc, _+_, _-_, _*_}
 use lib.Dec.{eqb}
 use lib.ListN.{length, take, drop}
-use Rattle.base.specs.Table.{tab}
+use Rattle.base.specs.Table.{tab, rowsOf}
 use Rattle.job.specs.Tree.{JobData, link, T, H, planLength}
 use Rattle.job.specs.Bytes.{jobOf}
 use Rattle.job.specs.Refusal.{refusal}
 use Rattle.smoothing.specs.Row.{peak}
 use Rattle.smoothing.specs.Lists.{rowsIn}
+use Rattle.smoothing.specs.Plan.{plan}
+use Rattle.curves.specs.Curves.{problem}
 use Rattle.planner.specs.Rules.{Keeps, Best}
 use Rattle.planner.specs.declared.Answer.{Answer}
 use Rattle.planner.specs.declared.Answer.the-variants.{Refused, Planned}
@@ -50,9 +52,13 @@ earlyRefusal s planned peaks =
 abbrev pub planIn : JobData → List ℕ → ℕ → ℕ → ℕ
 planIn j l i k = rowsIn (H j + 1) l i k
 
+-- the rows that document 01's curves define: the lazy schedules of the lower curves at the least peaks, closed at every slot
+abbrev pub rowsDefined : JobData → List ℕ
+rowsDefined j = rowsOf (λ i. tab (plan (problem (j .tree) (T j) (T j (j .M)) (H j)) (suc i)) (H j + 1)) (j .tree .n - 1)
+
 -- The memory question's answer e to bytes s, with plan and peaks before and after it.
 -- Refused: plan and peaks are as before; e is the first of 1 to 11 that applies, or none of these does, e is 12 and no plan keeps the rules.
--- Planned: none of 1 to 11 applies; H and T(M); the plan given is the best, and the peaks given are those of its rows.
+-- Planned: none of 1 to 11 applies; H and T(M); the rows that the curves define; that plan is the best; the peaks given are those of its rows.
 unfoldable pub Answers : Answer → List ℕ → List ℕ → List ℕ → List ℕ → List ℕ → Type 0
 Answers (Refused e) s plan₀ plan₁ peaks₀ peaks₁ =
     let early = earlyRefusal s (length plan₀) (length peaks₀) in
@@ -64,5 +70,5 @@ Answers (Planned last total) s plan₀ plan₁ peaks₀ peaks₁ =
     (earlyRefusal s (length plan₀) (length peaks₀) ≡ 0)
     × ((last ≡ H j)
     × ((total ≡ T j (j .M))
-    × ((length plan₁ ≡ length plan₀)
+    × ((plan₁ ≡ rowsDefined j)
     × (Best j (planIn j plan₁) × (peaks₁ ≡ tab (λ i. peak (H j) (planIn j plan₁ (suc i))) (j .tree .n - 1))))))

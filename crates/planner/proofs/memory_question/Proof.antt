@@ -93,7 +93,7 @@ returns-4 c =
     let st = c .before .before .before .before .before .before .before .before .before .before .before .before .before .before .before .before .before .before in
     let w = c .before .before .before .before .with-job in
     answered (st .args .bytes .now) (c .before .before .before .before .before .before .before .before .before .before .before .before .before .before .read .result .job) (accepted e) (st .args .plan .now) _ (st .args .peaks .now) _
-    (l .before .before .if2 .left ∙ length-is (l .before .before .before)) (l .if3 .left ∙ links-is e) (w .kept .1 .1 .0) (w .result) (w .ensures)
+    (l .before .before .if2 .left ∙ length-is (l .before .before .before)) (l .if3 .left ∙ links-is e) (w .result) (w .ensures)
 
 pub memory-question-spec : {M : Type 1} → statement M
 memory-question-spec =

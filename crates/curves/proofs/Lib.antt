@@ -8,4 +8,5 @@ pub mod LowerRowLaws
 pub mod PathLaws
 pub mod WalkLaws
 pub mod UpperRowLaws
+pub mod MidLaws
 mod Examples

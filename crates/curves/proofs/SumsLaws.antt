@@ -26,6 +26,11 @@ film-of l h = record {
 pub sum-fits : (l : List ℕ) → HoldsSums l → (m : ℕ) → sumsIn l m ≤ mostFrames * greatestFrame
 sum-fits l h m = omega (arith, film-of l h .under m, h .fits)
 
+-- and so is every number of the slice
+pub place-fits : (l : List ℕ) → HoldsSums l → (m : ℕ) → m < length l → getD l m 0 ≤ mostFrames * greatestFrame
+unfolding lastIn
+place-fits l h m q = omega (arith, h .grows m (length l - 1) (omega arith) (omega arith), h .fits)
+
 -- ---- of a job within the limits
 
 -- a film is a film

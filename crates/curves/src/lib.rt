@@ -8,7 +8,7 @@ ghost use lib.ListN.{length, getD, set};
 ghost use Rattle.base.specs.Range.{some, fold};
 ghost use Rattle.base.specs.Set.{has, wordBits};
 ghost use Rattle.base.specs.Table.{tab};
-ghost use Rattle.job.specs.Limits.{mostNodes, longestDelay, greatestMemory};
+ghost use Rattle.job.specs.Limits.{mostNodes, mostFrames, longestDelay, greatestMemory, greatestFrame};
 ghost use Rattle.job.specs.Tree.{TreeWithin, leaf};
 ghost use Rattle.job.specs.Read.{treeIn};
 ghost use Rattle.curves.specs.Curves.{sumsIn, lastIn, HoldsSums, lowerCurve, upperCurve};
@@ -52,23 +52,48 @@ fn shift(out: &mut [u64], sums: &[u64], delay: usize)
     }
 }
 
-// Each slot k takes T(k - delay) less `less`, where that is more.
-fn raise(out: &mut [u64], sums: &[u64], delay: usize, less: u64)
-    requires { ⌜ 0 < length (now sums) ⌝ }
-    ensures { λ _. ⌜ now (out .exit) ≡ tab (raised (now (out .entry)) (sumsIn (now (sums .entry))) delay less) (length (now (out .entry))) ⌝ }
-{
-    let last = sums.len() - 1;
-    let mut k = 0;
-    while k < out.len() {
-        out[k] = larger(out[k], less_by(sums[place(k, delay, last)], less));
-        k += 1;
-    }
-}
-
 fn shorter(a: usize, b: usize) -> usize
     ensures { λ r. ⌜ r ≡ min a b ⌝ }
 {
     if b < a { b } else { a }
+}
+
+// Each place takes that of `from` less `less`, where that is more.
+fn raise_by(out: &mut [u64], from: &[u64], less: u64)
+    requires { ⌜ length (now out) ≤ length (now from) ⌝ }
+    ensures { λ _. ⌜ now (out .exit) ≡ tab (λ k. max (getD (now (out .entry)) k 0) (getD (now (from .entry)) k 0 - less)) (length (now (out .entry))) ⌝ }
+{
+    let mut k = 0;
+    while k < out.len() {
+        out[k] = larger(out[k], less_by(from[k], less));
+        k += 1;
+    }
+}
+
+// Each place takes `value`, where that is more.
+fn raise_to(out: &mut [u64], value: u64)
+    ensures { λ _. ⌜ now (out .exit) ≡ tab (λ k. max (getD (now (out .entry)) k 0) value) (length (now (out .entry))) ⌝ }
+{
+    let mut k = 0;
+    while k < out.len() {
+        out[k] = larger(out[k], value);
+        k += 1;
+    }
+}
+
+// Each slot k takes T(k - delay) less `less`, where that is more: nothing before the delay, then T frame by frame, then T(M).
+fn raise(out: &mut [u64], sums: &[u64], delay: usize, less: u64)
+    requires { ⌜ HoldsSums (now sums) ⌝ }
+    ensures { λ _. ⌜ now (out .exit) ≡ tab (raised (now (out .entry)) (sumsIn (now (sums .entry))) delay less) (length (now (out .entry))) ⌝ }
+{
+    let end = out.len();
+    let frames = sums.len();
+    let last = less_by(sums[frames - 1], less);
+    let start = shorter(delay, end);
+    let count = shorter(end - start, frames);
+    let full = start + count;
+    raise_by(&mut out[start..full], &sums[0..count], less);
+    raise_to(&mut out[full..end], last);
 }
 
 // The least of the numbers at the members of a set, where none is above the longest delay.
@@ -144,17 +169,43 @@ fn level(out: &mut [u64], value: u64)
     }
 }
 
-// Each slot k takes T(k - delay) and `plus`, where that is less.
+// Each place takes that of `from` and `plus`, where that is less.
+fn lower_by(out: &mut [u64], from: &[u64], plus: u64)
+    requires { ⌜ (length (now out) ≤ length (now from)) × ((plus ≤ mostNodes * greatestMemory) × ((k : ℕ) → k < length (now out) → getD (now from) k 0 ≤ mostFrames * greatestFrame)) ⌝ }
+    ensures { λ _. ⌜ now (out .exit) ≡ tab (λ k. min (getD (now (out .entry)) k 0) (getD (now (from .entry)) k 0 + plus)) (length (now (out .entry))) ⌝ }
+{
+    let mut k = 0;
+    while k < out.len() {
+        out[k] = smaller(out[k], from[k] + plus);
+        k += 1;
+    }
+}
+
+// Each place takes `value`, where that is less.
+fn lower_all(out: &mut [u64], value: u64)
+    ensures { λ _. ⌜ now (out .exit) ≡ tab (λ k. min (getD (now (out .entry)) k 0) value) (length (now (out .entry))) ⌝ }
+{
+    let mut k = 0;
+    while k < out.len() {
+        out[k] = smaller(out[k], value);
+        k += 1;
+    }
+}
+
+// Each slot k takes T(k - delay) and `plus`, where that is less: T(0) before the delay, then T frame by frame, then T(M).
 fn lower_to(out: &mut [u64], sums: &[u64], delay: usize, plus: u64)
     requires { ⌜ HoldsSums (now sums) × (plus ≤ mostNodes * greatestMemory) ⌝ }
     ensures { λ _. ⌜ now (out .exit) ≡ tab (lowered (now (out .entry)) (sumsIn (now (sums .entry))) delay plus) (length (now (out .entry))) ⌝ }
 {
-    let last = sums.len() - 1;
-    let mut k = 0;
-    while k < out.len() {
-        out[k] = smaller(out[k], sums[place(k, delay, last)] + plus);
-        k += 1;
-    }
+    let end = out.len();
+    let frames = sums.len();
+    let last = sums[frames - 1] + plus;
+    let start = shorter(delay, end);
+    let count = shorter(end - start, frames);
+    let full = start + count;
+    lower_all(&mut out[0..start], plus);
+    lower_by(&mut out[start..full], &sums[0..count], plus);
+    lower_all(&mut out[full..end], last);
 }
 
 // A node with its ancestors below the root, and the highest of them.

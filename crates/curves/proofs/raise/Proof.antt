@@ -1,102 +1,122 @@
-use Rattle.curves.specs.Curves.{sumsIn}
-use Rattle.curves.specs.Rows.{raised}
-use Rattle.base.specs.Table.{tab, Filled}
-use Rattle.base.proofs.TableLaws.{filled-none, filled-more, filled-ahead, filled-done}
-use lib.ListN.{length, getD}
-use mathlib.Core.Path.{_≡_, refl, ap, sym, _∙_}
-use Prim.Native.Nat.{ℕ, _+_, _-_, _≤_, _<_, max, min}
-use borrow.Author.Needs.{needs}
+use Rattle.curves.specs.Curves.{lastIn}
+use Rattle.curves.proofs.MidLaws.{raise-parts, part-get}
+use lib.ListN.{length, take, drop, getD}
+use mathlib.Core.Path.{_≡_, refl, ap, _∙_}
+use Prim.Native.Nat.{ℕ, _+_, _-_, _≤_, _<_}
 use native.Mathlib.Omega.{arith}
+use borrow.Author.Needs.{needs}
 use Rattle.curves.proofs.raise.Statement.{statement}
 use Rattle.curves.proofs.raise.Tie as tie
 use Rattle.curves.proofs.raise.Reads as reads
 use Rattle.curves.proofs.raise.Lts as lts
-use Rattle.curves.proofs.larger.Reads as larger-reads
 use Rattle.curves.proofs.less_by.Reads as less-by-reads
-use Rattle.curves.proofs.place.Reads as place-reads
+use Rattle.curves.proofs.raise_by.Reads as raise-by-reads
+use Rattle.curves.proofs.raise_to.Reads as raise-to-reads
+use Rattle.curves.proofs.shorter.Reads as shorter-reads
 
-abbrev Inv-loop : tie.InvT-loop
-Inv-loop out₀ sums delay less last k₀ out k = (last ≡ length sums - 1) × Filled (raised out₀ (sumsIn sums) delay less) k out₀ out
+sub-less-by : tie.Need-sub-less-by
+sub-less-by c = search needs
 
-abbrev μ-loop : tie.MeasureT-loop
-μ-loop out₀ sums delay less last k₀ out k = length out₀ - k
-
-sub-last : tie.Need-sub-last Inv-loop μ-loop
-sub-last c = search needs
-
-loop-holds : tie.Need-loop-holds Inv-loop μ-loop
-loop-holds c = (omega arith, filled-none _ _)
-
-mul-larger : tie.Need-mul-larger Inv-loop μ-loop
-mul-larger c = search needs
-
-slice-read-larger : tie.Need-slice-read-larger Inv-loop μ-loop
-slice-read-larger c = search needs
-
-place-requires : tie.Need-place-requires Inv-loop μ-loop
-place-requires c κs = search needs
-
-mul-less-by : tie.Need-mul-less-by Inv-loop μ-loop
+mul-less-by : tie.Need-mul-less-by
 mul-less-by c = search needs
 
-shared-slice-read-less-by : tie.Need-shared-slice-read-less-by Inv-loop μ-loop
+shared-slice-read-less-by : tie.Need-shared-slice-read-less-by
 shared-slice-read-less-by c = search needs
 
-less-by-requires : tie.Need-less-by-requires Inv-loop μ-loop
+less-by-requires : tie.Need-less-by-requires
 less-by-requires c κs = search needs
 
-larger-requires : tie.Need-larger-requires Inv-loop μ-loop
-larger-requires c κs = search needs
+shorter-requires : tie.Need-shorter-requires
+shorter-requires c κs = search needs
 
-mul-out : tie.Need-mul-out Inv-loop μ-loop
-mul-out c = search needs
+sub-shorter : tie.Need-sub-shorter
+sub-shorter c = search needs
 
-slice-write-out : tie.Need-slice-write-out Inv-loop μ-loop
-slice-write-out c = search needs
+shorter-requires-2 : tie.Need-shorter-requires-2
+shorter-requires-2 c κs = search needs
 
-add-k : tie.Need-add-k Inv-loop μ-loop
-add-k c = search needs
+add-full : tie.Need-add-full
+add-full c = search needs
 
-loop-less : tie.Need-loop-less Inv-loop μ-loop
-loop-less c = search needs
+mul-raise-by : tie.Need-mul-raise-by
+mul-raise-by c = search needs
 
-value : (c : tie.After-larger Inv-loop μ-loop) → let l = c .before .before .before .before .before .before .loop in let a = c .before .before .before .before .before .before .before .before .before .args in
-    c .larger .result ≡ raised (a .out .now) (sumsIn (a .sums .now)) (a .delay) (a .less) (l .k)
-unfolding raised sumsIn
-value c =
-    let l = c .before .before .before .before .before .before .loop in
-    c .larger .ensures ∙ rw (c .before .less-by .ensures, c .before .before .before .place .ensures, filled-ahead _ (l .k) _ (l .out) (l .inv .1) (omega arith))
+sub-raise-by : tie.Need-sub-raise-by
+sub-raise-by c = search needs
 
-loop-again : tie.Need-loop-again Inv-loop μ-loop
-loop-again c =
-    let l = c .before .before .before .before .before .before .loop in
-    (l .inv .0, rw (value c) (filled-more _ (l .k) _ (l .out) (l .inv .1) (omega arith)))
+part-raise-by-start : tie.Need-part-raise-by-start
+part-raise-by-start c = search needs
 
-same-length : tie.Need-same-length Inv-loop μ-loop
-same-length c = c .before .loop .inv .1 .1 .0
+part-raise-by-end : tie.Need-part-raise-by-end
+part-raise-by-end c = search needs
 
-returns : tie.Need-returns Inv-loop μ-loop
-returns c = filled-done _ _ _ _ (c .before .loop .inv .1) (omega arith)
+sub-raise-by-2 : tie.Need-sub-raise-by-2
+sub-raise-by-2 c = search needs
+
+part-raise-by-start-2 : tie.Need-part-raise-by-start-2
+part-raise-by-start-2 c = search needs
+
+part-raise-by-end-2 : tie.Need-part-raise-by-end-2
+part-raise-by-end-2 c = search needs
+
+raise-by-requires : tie.Need-raise-by-requires
+raise-by-requires c κs = search needs
+
+mul-raise-to : tie.Need-mul-raise-to
+mul-raise-to c = search needs
+
+sub-raise-to : tie.Need-sub-raise-to
+sub-raise-to c = search needs
+
+part-raise-to-start : tie.Need-part-raise-to-start
+part-raise-to-start c = search needs
+
+part-raise-to-end : tie.Need-part-raise-to-end
+part-raise-to-end c = search needs
+
+raise-to-requires : tie.Need-raise-to-requires
+raise-to-requires c κs = search needs
+
+same-length : tie.Need-same-length
+same-length c = search needs
+
+returns : tie.Need-returns
+unfolding lastIn
+returns c =
+    let st = c .before .before .before .before .before .before .before .before .before .before .before .before .before .before .before in
+    let a = st .args in
+    let value = c .before .before .before .before .before .before .before .before .before .before .before .less-by .ensures in
+    let s = c .before .before .before .before .before .before .before .before .before .before .shorter .result in
+    let n = c .before .before .before .before .before .before .before .before .before .shorter2 .result in
+    raise-parts (a .out .now) (a .sums .now) (take (n - 0) (drop 0 (a .sums .now))) _ _ (st .pre) (a .delay) (a .less) s n (s + n - s) (length (a .out .now) - (s + n))
+    (c .before .before .before .before .before .before .before .before .before .before .shorter .ensures) (c .before .before .before .before .before .before .before .before .before .shorter2 .ensures) (omega arith) refl
+    (λ j h. part-get (a .sums .now) 0 (n - 0) j (omega arith) ∙ ap (λ (z : ℕ). getD (a .sums .now) z 0) (omega arith))
+    (c .before .before .before .before .before .before .raise-by .ensures) (rw value at (c .before .before .raise-to .ensures))
 
 pub raise-spec : {M : Type 1} → statement M
 raise-spec =
     tie.close
     (tie.spec
-    Inv-loop
-    μ-loop
-    sub-last
-    loop-holds
-    mul-larger
-    slice-read-larger
-    place-requires
+    sub-less-by
     mul-less-by
     shared-slice-read-less-by
     less-by-requires
-    larger-requires
-    mul-out
-    slice-write-out
-    add-k
-    loop-less
-    loop-again
+    shorter-requires
+    sub-shorter
+    shorter-requires-2
+    add-full
+    mul-raise-by
+    sub-raise-by
+    part-raise-by-start
+    part-raise-by-end
+    sub-raise-by-2
+    part-raise-by-start-2
+    part-raise-by-end-2
+    raise-by-requires
+    mul-raise-to
+    sub-raise-to
+    part-raise-to-start
+    part-raise-to-end
+    raise-to-requires
     same-length
     returns)

@@ -1,0 +1,89 @@
+use Rattle.base.specs.Table.{tab, Filled}
+use Rattle.base.proofs.TableLaws.{filled-none, filled-more, filled-ahead, filled-done}
+use lib.ListN.{length, getD}
+use mathlib.Core.List.{List}
+use mathlib.Core.Path.{_≡_, refl, ap, sym, _∙_}
+use Prim.Native.Nat.{ℕ, _+_, _-_, _≤_, _<_, min}
+use borrow.Author.Needs.{needs}
+use native.Mathlib.Omega.{arith}
+use Rattle.curves.proofs.lower_by.Statement.{statement}
+use Rattle.curves.proofs.lower_by.Tie as tie
+use Rattle.curves.proofs.lower_by.Reads as reads
+use Rattle.curves.proofs.lower_by.Lts as lts
+use Rattle.curves.proofs.smaller.Reads as smaller-reads
+
+abbrev row : List ℕ → List ℕ → ℕ → ℕ → ℕ
+row out from plus k = min (getD out k 0) (getD from k 0 + plus)
+
+abbrev Inv-loop : tie.InvT-loop
+Inv-loop out₀ from plus k₀ out k = Filled (row out₀ from plus) k out₀ out
+
+abbrev μ-loop : tie.MeasureT-loop
+μ-loop out₀ from plus k₀ out k = length out₀ - k
+
+loop-holds : tie.Need-loop-holds Inv-loop μ-loop
+loop-holds c = filled-none _ _
+
+mul-smaller : tie.Need-mul-smaller Inv-loop μ-loop
+mul-smaller c = search needs
+
+slice-read-smaller : tie.Need-slice-read-smaller Inv-loop μ-loop
+slice-read-smaller c = search needs
+
+mul-smaller-2 : tie.Need-mul-smaller-2 Inv-loop μ-loop
+mul-smaller-2 c = search needs
+
+shared-slice-read-smaller : tie.Need-shared-slice-read-smaller Inv-loop μ-loop
+shared-slice-read-smaller c = search needs
+
+add-smaller : tie.Need-add-smaller Inv-loop μ-loop
+add-smaller c = let st = c .before .before .before .before .before .before in omega (arith, st .pre .1 .0, st .pre .1 .1 (c .before .before .before .loop .k) (omega (arith, c .before .before .before .loop .inv .1 .0)))
+
+smaller-requires : tie.Need-smaller-requires Inv-loop μ-loop
+smaller-requires c κs = search needs
+
+mul-out : tie.Need-mul-out Inv-loop μ-loop
+mul-out c = search needs
+
+slice-write-out : tie.Need-slice-write-out Inv-loop μ-loop
+slice-write-out c = search needs
+
+add-k : tie.Need-add-k Inv-loop μ-loop
+add-k c = search needs
+
+loop-less : tie.Need-loop-less Inv-loop μ-loop
+loop-less c = search needs
+
+loop-again : tie.Need-loop-again Inv-loop μ-loop
+loop-again c =
+    let l = c .before .before .before .before .loop in
+    let a = c .before .before .before .before .before .before .before .args in
+    let e : c .smaller .result ≡ row (a .out .now) (a .from .now) (a .plus) (l .k) = c .smaller .ensures ∙ rw (filled-ahead _ (l .k) _ (l .out) (l .inv) (omega arith)) in
+    rw e (filled-more (row (a .out .now) (a .from .now) (a .plus)) (l .k) _ (l .out) (l .inv) (omega arith))
+
+same-length : tie.Need-same-length Inv-loop μ-loop
+same-length c = c .before .loop .inv .1 .0
+
+returns : tie.Need-returns Inv-loop μ-loop
+returns c = let a = c .before .before .before .before .args in filled-done (row (a .out .now) (a .from .now) (a .plus)) _ _ _ (c .before .loop .inv) (omega arith)
+
+pub lower-by-spec : {M : Type 1} → statement M
+lower-by-spec =
+    tie.close
+    (tie.spec
+    Inv-loop
+    μ-loop
+    loop-holds
+    mul-smaller
+    slice-read-smaller
+    mul-smaller-2
+    shared-slice-read-smaller
+    add-smaller
+    smaller-requires
+    mul-out
+    slice-write-out
+    add-k
+    loop-less
+    loop-again
+    same-length
+    returns)

@@ -44,10 +44,10 @@ impl Case {
 
 /// What went wrong, and on which bytes.
 pub struct Mismatch {
-    what: &'static str,
-    expected: u64,
-    got: u64,
-    bytes: Vec<u8>,
+    pub what: String,
+    pub expected: u64,
+    pub got: u64,
+    pub bytes: Vec<u8>,
 }
 
 impl fmt::Display for Mismatch {
@@ -105,7 +105,7 @@ impl Tally {
         let problem = self.problem(&case, expected);
         if let Some((what, expected, got)) = problem {
             return Err(Mismatch {
-                what,
+                what: what.to_string(),
                 expected,
                 got,
                 bytes: case.bytes,

@@ -1,8 +1,10 @@
 //! Jobs with one field at a bound or past it, and the document's examples. The
 //! bounds are written out, so that the named ones are tested too.
 
+use crate::asking;
 use crate::compare::Case;
 use crate::job::{Job, Record};
+use crate::relax::Planner;
 use crate::rng::Rng;
 use crate::shapes::{valid, Shape, SHAPES};
 
@@ -70,31 +72,34 @@ pub const TREE_Q: [u8; 79] = [
     0, 0, 0, 4, 0, 0, 0, 10, 0, 0, 0, 1,
 ];
 
-/// The jobs under "Example trees", all of which are read.
-pub fn examples(_: &mut Rng) -> Vec<Case> {
-    let tree_q = |delays: [u16; 2], memories: [u64; 3], rates: [u64; 3], frames: [u32; 3]| {
-        let record = |parent, delay, i: usize| Record {
-            parent,
-            delay,
-            memory: memories[i],
-            rate: rates[i],
-        };
-        let records = vec![
-            record(0, 0, 0),
-            record(1, delays[0], 1),
-            record(1, delays[1], 2),
-        ];
-        Job::new(records, frames.to_vec())
+/// Tree Q with these numbers; the delays are those of its leaves.
+fn tree_q(delays: [u16; 2], memories: [u64; 3], rates: [u64; 3], frames: [u32; 3]) -> Job {
+    let record = |parent, delay, i: usize| Record {
+        parent,
+        delay,
+        memory: memories[i],
+        rate: rates[i],
     };
-    let one_leaf = |frame, rate| {
-        Job::new(
-            vec![Record {
-                rate,
-                ..Record::default()
-            }],
-            vec![frame],
-        )
-    };
+    let records = vec![
+        record(0, 0, 0),
+        record(1, delays[0], 1),
+        record(1, delays[1], 2),
+    ];
+    Job::new(records, frames.to_vec())
+}
+
+fn one_leaf(frame: u32, rate: u64) -> Job {
+    Job::new(
+        vec![Record {
+            rate,
+            ..Record::default()
+        }],
+        vec![frame],
+    )
+}
+
+/// The jobs under "Example trees".
+fn example_jobs() -> [Job; 9] {
     let (rates, frames) = ([5, 10, 4], [4, 10, 1]);
     let listed = tree_q([0, 1], [4, 0, 6], rates, frames);
     assert_eq!(
@@ -102,8 +107,7 @@ pub fn examples(_: &mut Rng) -> Vec<Case> {
         TREE_Q,
         "the encoder against Tree Q by hand"
     );
-
-    let jobs = [
+    [
         tree_q([0, 0], [0, 6, 6], rates, frames),
         tree_q([0, 0], [6, 0, 6], rates, frames),
         listed,
@@ -113,10 +117,44 @@ pub fn examples(_: &mut Rng) -> Vec<Case> {
         one_leaf(4_098, 1),
         tree_q([0, 0], [0, 0, 0], [0, 0, 0], [0, 0, 0]),
         one_leaf(1, 0),
-    ];
-    jobs.iter()
+    ]
+}
+
+/// The examples, all of which are read.
+pub fn examples(_: &mut Rng) -> Vec<Case> {
+    example_jobs()
+        .iter()
         .map(|job| Case::known(job.encode(), 0))
         .collect()
+}
+
+/// The examples for the memory question, the first four of which the independent
+/// planner must answer as the document does.
+pub fn memory_examples(_: &mut Rng) -> Vec<asking::Case> {
+    let even = vec![0, 7, 14, 15];
+    let due = [
+        Some(([7, 7, 7], [even.clone(), even.clone(), even.clone()])),
+        Some(([7, 10, 7], [even.clone(), vec![0, 4, 14, 15], even])),
+        Some((
+            [7, 10, 5],
+            [
+                vec![0, 7, 14, 15, 15],
+                vec![0, 4, 14, 15, 15],
+                vec![0, 5, 10, 14, 15],
+            ],
+        )),
+        None,
+    ];
+    let jobs = example_jobs();
+    for (job, due) in jobs.iter().zip(due) {
+        let got = Planner::new(job).answer();
+        let due = due.map(|(peaks, rows)| (peaks.to_vec(), rows.to_vec()));
+        assert!(
+            got.map(|answer| (answer.peaks, answer.rows)) == due,
+            "the independent planner against the document"
+        );
+    }
+    jobs.into_iter().map(asking::Case::job).collect()
 }
 
 /// Tree Q with each byte at each value.

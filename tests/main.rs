@@ -1,27 +1,37 @@
 //! Holds the static library against independent implementations.
 //!
-//! Arguments, both optional: the number of random strings and the seed, decimal
-//! or hexadecimal after `0x`.
+//! Arguments, all optional: the number of random strings, the seed and the number
+//! of random jobs for the memory question, decimal or hexadecimal after `0x`.
 
 #![deny(unsafe_code)]
 
+mod answer;
+mod asking;
+mod brute;
 mod compare;
 mod edges;
 mod faults;
 mod garbage;
 mod job;
+mod lending;
 #[allow(unsafe_code)]
 mod library;
+mod planning;
 mod reader;
 mod reading;
+mod relax;
 mod rng;
+mod rules;
 mod shapes;
+mod trees;
 
 use std::process::ExitCode;
 
+use asking::Asked;
 use compare::Tally;
 
 const RANDOM_STRINGS: u64 = 127_000;
+const RANDOM_JOBS: u64 = 90_000;
 const SEED: u64 = 0x5245_4C41_5900_0001;
 
 fn number(text: &str) -> Option<u64> {
@@ -31,28 +41,35 @@ fn number(text: &str) -> Option<u64> {
     }
 }
 
-/// The number of random strings and the seed.
-fn arguments() -> Option<(u64, u64)> {
+/// The number of random strings, the seed and the number of random jobs.
+fn arguments() -> Option<(u64, u64, u64)> {
     let given: Vec<String> = std::env::args().skip(1).collect();
+    let given: Vec<u64> = given
+        .iter()
+        .map(|text| number(text))
+        .collect::<Option<_>>()?;
     match given.as_slice() {
-        [] => Some((RANDOM_STRINGS, SEED)),
-        [count] => Some((number(count)?, SEED)),
-        [count, seed] => Some((number(count)?, number(seed)?)),
+        [] => Some((RANDOM_STRINGS, SEED, RANDOM_JOBS)),
+        &[strings] => Some((strings, SEED, RANDOM_JOBS)),
+        &[strings, seed] => Some((strings, seed, RANDOM_JOBS)),
+        &[strings, seed, jobs] => Some((strings, seed, jobs)),
         _ => None,
     }
 }
 
 fn main() -> ExitCode {
-    let Some((random, seed)) = arguments() else {
-        eprintln!("usage: harness [random strings [seed]]");
+    let Some((strings, seed, jobs)) = arguments() else {
+        eprintln!("usage: harness [random strings [seed [random jobs]]]");
         return ExitCode::from(2);
     };
     let mut tally = Tally::new();
-    let passed = reading::run(random, seed, &mut tally);
+    let mut asked = Asked::new();
+    let read = reading::run(strings, seed, &mut tally);
+    let planned = planning::run(jobs, seed, &mut asked);
+    let failed = u8::from(!read) + u8::from(!planned);
     println!(
-        "harness: {} passed, {} failed",
-        tally.strings,
-        u8::from(!passed)
+        "harness: {} passed, {failed} failed",
+        tally.strings + asked.jobs
     );
-    ExitCode::from(u8::from(!passed))
+    ExitCode::from(u8::from(failed > 0))
 }

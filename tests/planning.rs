@@ -1,0 +1,145 @@
+//! The memory question: the library against the brute-force search and the
+//! independent planner.
+
+use crate::asking::{Asked, Case};
+use crate::compare::Mismatch;
+use crate::edges::memory_examples;
+use crate::rng::Rng;
+use crate::trees;
+
+/// Least count of jobs in a run, of jobs for each number, and of accepted jobs in
+/// which P3 binds among every 100 random ones.
+const LEAST_JOBS: u64 = 50_000;
+const LEAST_PER_NUMBER: u64 = 1_000;
+const LEAST_BINDING: u64 = 30;
+
+/// Links of the largest plan whose peaks are tried one lower.
+const TRIED: usize = 4;
+
+/// A sort of case whose number of jobs is fixed.
+type Fixed = (&'static str, fn(&mut Rng) -> Vec<Case>);
+
+const FIXED: [Fixed; 5] = [
+    ("examples", memory_examples),
+    ("every tiny job", trees::every_tiny),
+    ("extremes", trees::extremes),
+    ("64 nodes", trees::most_nodes),
+    ("65,536 frames", trees::most_frames),
+];
+
+/// A sort of case with its share of every 1,000 random jobs. It is given the
+/// number of the case.
+type Random = (&'static str, u64, fn(u64, &mut Rng) -> Case);
+
+const RANDOM: [Random; 4] = [
+    ("tiny", 200, trees::tiny),
+    ("small", 630, trees::small),
+    ("faults", 150, trees::faulty),
+    ("wrong lengths", 20, trees::wrong_length),
+];
+
+/// Compares all cases, `random` of them random, and says whether all is well.
+pub fn run(random: u64, seed: u64, asked: &mut Asked) -> bool {
+    println!("memory question: seed {seed:#018x}, random jobs asked for {random}");
+    println!(
+        "{:<22}{:>20}{:>10}{:>10}{:>10}",
+        "kind", "seed", "jobs", "repeated", "binding"
+    );
+    match compare_all(random, seed, asked) {
+        Ok((jobs, binding)) => {
+            report(jobs, binding, asked);
+            met_enough(jobs, binding, asked)
+        }
+        Err(mismatch) => {
+            println!("{mismatch}");
+            false
+        }
+    }
+}
+
+/// Gives how many random jobs there were, and in how many of them P3 binds.
+fn compare_all(random: u64, seed: u64, asked: &mut Asked) -> Result<(u64, u64), Mismatch> {
+    // Streams of their own, apart from those of the reading tests.
+    let mut seeds = (1_000..).map(|index| Rng::stream_seed(seed, index));
+    for ((name, make), seed) in FIXED.into_iter().zip(&mut seeds) {
+        let cases = make(&mut Rng::new(seed));
+        compare_kind(name, seed, cases.into_iter(), asked)?;
+    }
+    let before = (asked.jobs, asked.binding);
+    for ((name, share, make), seed) in RANDOM.into_iter().zip(&mut seeds) {
+        let count = random * share / 1_000;
+        let mut rng = Rng::new(seed);
+        compare_kind(name, seed, (0..count).map(|i| make(i, &mut rng)), asked)?;
+    }
+    let met = (asked.jobs - before.0, asked.binding - before.1);
+
+    let seed = seeds.next().expect("endless");
+    let job = trees::largest(&mut Rng::new(seed));
+    asked.compare_large(&job, TRIED)?;
+    println!("{:<22}{seed:>#20x}{:>10}", "largest plan", 1);
+    Ok(met)
+}
+
+/// Compares the cases of one kind and prints its line.
+fn compare_kind(
+    name: &str,
+    seed: u64,
+    cases: impl Iterator<Item = Case>,
+    asked: &mut Asked,
+) -> Result<(), Mismatch> {
+    let before = asked.binding;
+    let (mut jobs, mut repeated) = (0, 0);
+    for case in cases {
+        match asked.compare(case) {
+            Ok(true) => jobs += 1,
+            Ok(false) => repeated += 1,
+            Err(mismatch) => {
+                println!(
+                    "mismatch in kind \"{name}\", seed {seed:#018x}, case {}",
+                    jobs + repeated
+                );
+                return Err(mismatch);
+            }
+        }
+    }
+    let binding = asked.binding - before;
+    println!("{name:<22}{seed:>#20x}{jobs:>10}{repeated:>10}{binding:>10}");
+    Ok(())
+}
+
+fn report(jobs: u64, binding: u64, asked: &Asked) {
+    println!("{:>6}{:>10}", "number", "jobs");
+    for (number, count) in asked.numbers.iter().enumerate() {
+        println!("{number:>6}{count:>10}");
+    }
+    println!(
+        "random jobs accepted with P3 binding (some leaf's row or peak would differ \
+         without it): {binding} of {jobs}, {}%",
+        100 * binding / jobs.max(1)
+    );
+    println!(
+        "searched by brute force: {}, of which {} have a plan",
+        asked.searched, asked.found
+    );
+    println!("largest plan: {} numbers", asked.largest);
+}
+
+/// Whether jobs enough were met, of each number too; says what is missing.
+fn met_enough(jobs: u64, binding: u64, asked: &Asked) -> bool {
+    let mut enough = true;
+    if asked.jobs < LEAST_JOBS {
+        println!("only {} jobs, at least {LEAST_JOBS} wanted", asked.jobs);
+        enough = false;
+    }
+    for (number, &count) in asked.numbers.iter().enumerate() {
+        if count < LEAST_PER_NUMBER {
+            println!("number {number} met {count} times, at least {LEAST_PER_NUMBER} wanted");
+            enough = false;
+        }
+    }
+    if 100 * binding < LEAST_BINDING * jobs {
+        println!("P3 binds in {binding} of {jobs}, at least {LEAST_BINDING}% wanted");
+        enough = false;
+    }
+    enough
+}

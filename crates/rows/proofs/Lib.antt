@@ -1,3 +1,4 @@
 pub mod RowLaws
 pub mod SearchLaws
 pub mod ClosingLaws
+pub mod OpeningLaws

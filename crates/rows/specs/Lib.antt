@@ -1,3 +1,4 @@
 pub mod Row
 pub mod Search
 pub mod Closing
+pub mod Opening

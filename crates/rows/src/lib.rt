@@ -8,10 +8,11 @@ ghost use Rattle.base.specs.Table.{tab};
 ghost use Rattle.smoothing.specs.Row.{peak, lazy, ceilDiv, leastPeak};
 ghost use Rattle.smoothing.specs.Newton as newton;
 ghost use Rattle.smoothing.specs.Lists.{familyIn, rowsIn};
-ghost use Rattle.smoothing.specs.Tree.{Tree, passUp, passDown, closeDown, close};
+ghost use Rattle.smoothing.specs.Tree.{Tree, passUp, passDown, closeDown, close, openUp, «open»};
 ghost use Rattle.rows.specs.Closing.{treeFrom, slotIn, withPart, Closable, Due};
-ghost use Rattle.job.specs.Limits.{greatestTotal};
-ghost use Rattle.rows.specs.Row.{rowIn};
+ghost use Rattle.rows.specs.Opening.{Apart, Openable};
+ghost use Rattle.job.specs.Limits.{greatestTotal, greatestMemory};
+ghost use Rattle.rows.specs.Row.{rowIn, InRange};
 ghost use Rattle.rows.specs.Search.{searchIn, Searchable};
 use job::Job;
 
@@ -280,4 +281,74 @@ pub fn close_rows(
 {
     pass_up(plan, parent, nodes, width);
     pass_down(plan, lent, parent, memory, nodes, width);
+}
+
+// Of two rows in one list that have no place in common, the one from place `to` on lowered to the one from place `from` on and `plus`.
+fn lower_within(plan: &mut [u64], to: usize, from: usize, plus: u64, width: usize)
+    requires { ⌜ Apart to from width (now plan) × ((plus ≤ greatestMemory) × InRange (now plan)) ⌝ }
+    ensures filled { λ _. ⌜ now (plan .exit) ≡ withPart (λ k. min (getD (now (plan .entry)) (to + k) 0) (getD (now (plan .entry)) (from + k) 0 + plus)) to width (now (plan .entry)) ⌝ }
+    ensures ranged { λ _. ⌜ InRange (now (plan .exit)) ⌝ }
+{
+    let mut k = 0;
+    while k < width {
+        plan[to + k] = lesser(plan[to + k], plan[from + k] + plus);
+        k += 1;
+    }
+}
+
+// The pass up of opening: each row and its parent's memory, from the last on, into the parent's row, unless that is the root.
+fn open_up(
+    plan: &mut [u64],
+    parent: &[usize; Job::MOST_NODES],
+    memory: &[u64; Job::MOST_NODES],
+    nodes: usize,
+    width: usize,
+)
+    requires { ⌜ Openable (now plan) (now parent) (now memory) nodes width ⌝ }
+    ensures passed { λ _. ⌜ ((k : ℕ) → k < width → slotIn width (now (plan .exit)) k ≡ passUp (familyIn (now (parent .entry))) (openUp (treeFrom nodes (now (parent .entry)) (now (memory .entry)))) (nodes - 1) (slotIn width (now (plan .entry)) k)) ⌝ }
+    ensures ranged { λ _. ⌜ InRange (now (plan .exit)) ⌝ }
+{
+    let mut v = nodes;
+    while v > 1 {
+        v -= 1;
+        let u = parent[v];
+        if u > 0 {
+            let to = (u - 1) * width;
+            let from = (v - 1) * width;
+            let plus = memory[u];
+            lower_within(plan, to, from, plus, width);
+        }
+    }
+}
+
+// The pass down of opening: each row, from the first on, lowered to its parent's, unless that is the root.
+fn open_down(plan: &mut [u64], parent: &[usize; Job::MOST_NODES], nodes: usize, width: usize)
+    requires { ⌜ Closable (now plan) (now parent) nodes width × InRange (now plan) ⌝ }
+    ensures { λ _. ⌜ ((k : ℕ) → k < width → slotIn width (now (plan .exit)) k ≡ passDown (familyIn (now (parent .entry))) (λ v x y. min x y) (nodes - 1) (slotIn width (now (plan .entry)) k)) ⌝ }
+{
+    let mut v = 1;
+    while v < nodes {
+        let u = parent[v];
+        let to = (v - 1) * width;
+        v += 1;
+        if u > 0 {
+            let from = (u - 1) * width;
+            lower_within(plan, to, from, 0, width);
+        }
+    }
+}
+
+// A table with a row of `width` numbers for each link, link 1's first, opened at every slot.
+pub fn open_rows(
+    plan: &mut [u64],
+    parent: &[usize; Job::MOST_NODES],
+    memory: &[u64; Job::MOST_NODES],
+    nodes: usize,
+    width: usize,
+)
+    requires { ⌜ Openable (now plan) (now parent) (now memory) nodes width ⌝ }
+    ensures { λ _. ⌜ ((k : ℕ) → k < width → slotIn width (now (plan .exit)) k ≡ «open» (treeFrom nodes (now (parent .entry)) (now (memory .entry))) (slotIn width (now (plan .entry)) k)) ⌝ }
+{
+    open_up(plan, parent, memory, nodes, width);
+    open_down(plan, parent, nodes, width);
 }

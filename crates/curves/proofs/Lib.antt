@@ -10,3 +10,4 @@ pub mod WalkLaws
 pub mod UpperRowLaws
 pub mod MidLaws
 mod Examples
+pub mod AllRowsLaws

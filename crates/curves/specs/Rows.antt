@@ -1,6 +1,7 @@
 -- What the code works with: the delay that stands for a node, and how far a leaf is from another node's path.
 use mathlib.Core.Bool.{Bool, true, cond, _&&_, _||_}
 use mathlib.Core.Path.{_≡_}
+use mathlib.Core.Logic.{_≢_}
 use mathlib.Core.List.{List}
 use Prim.Native.Nat.{ℕ, zero, suc, _+_, _-_, _≤_, _<_, max, min}
 use lib.Dec.{eqb, ltb}
@@ -9,7 +10,8 @@ use Rattle.base.specs.Range.{leastOver}
 use Rattle.base.specs.Set.{has}
 use Rattle.job.specs.Limits.{mostNodes}
 use Rattle.job.specs.Tree.{Tree, leaf, below}
-use Rattle.curves.specs.Curves.{leafBelow, room, leastUp}
+use Rattle.base.specs.Table.{tab, rowsOf}
+use Rattle.curves.specs.Curves.{leafBelow, D, room, leastUp, lowerCurve, upperCurve, high}
 
 -- the delay of a leaf; of an inner node the least delay of the leaves below it
 unfoldable pub leastDelay : Tree → ℕ → ℕ
@@ -54,3 +56,19 @@ pub record Under (l : List ℕ) (T delay : ℕ → ℕ) (taken : List ℕ) : Typ
 -- the upper curve but for slot 0
 unfoldable pub allowed : Tree → (ℕ → ℕ) → ℕ → ℕ → ℕ → ℕ
 allowed t T top i k = min (leastUp t (λ a. room t T a k) i i) top
+
+-- `high` but for slot 0
+unfoldable pub roof : Tree → (ℕ → ℕ) → ℕ → ℕ → ℕ → ℕ
+roof t T top i k = cond (leaf t i) (min (D t T i k + t .memory i) top) top
+
+-- `high` of links 1 to m, rows of w slots one after the other
+abbrev pub highRows : Tree → (ℕ → ℕ) → ℕ → ℕ → ℕ → List ℕ
+highRows t T top w m = rowsOf (λ i. tab (high t T top (suc i)) w) m
+
+-- the upper curves of links 1 to m, rows of w slots one after the other
+abbrev pub upperRows : Tree → (ℕ → ℕ) → ℕ → ℕ → ℕ → List ℕ
+upperRows t T top w m = rowsOf (λ i. tab (upperCurve t T top (suc i)) w) m
+
+-- a row kept from link to link: the lower curve of node c; anything where that is the root
+abbrev pub Kept : Tree → (ℕ → ℕ) → ℕ → List ℕ → Type 0
+Kept t T c l = (c < t .n) × (c ≢ 0 → l ≡ tab (lowerCurve t T c) (length l))

@@ -8,11 +8,11 @@ ghost use lib.ListN.{length, getD, set};
 ghost use Rattle.base.specs.Range.{some, fold};
 ghost use Rattle.base.specs.Set.{has, wordBits};
 ghost use Rattle.base.specs.Table.{tab};
-ghost use Rattle.job.specs.Limits.{mostNodes, mostFrames, longestDelay, greatestMemory, greatestFrame};
+ghost use Rattle.job.specs.Limits.{mostNodes, mostFrames, mostSlots, longestDelay, greatestMemory, greatestFrame};
 ghost use Rattle.job.specs.Tree.{TreeWithin, leaf};
 ghost use Rattle.job.specs.Read.{treeIn};
-ghost use Rattle.curves.specs.Curves.{sumsIn, lastIn, HoldsSums, lowerCurve, upperCurve};
-ghost use Rattle.curves.specs.Rows.{leastDelay, raised, lowered, atOrBelow, PathOf, apart, Under, allowed};
+ghost use Rattle.curves.specs.Curves.{sumsIn, lastIn, HoldsSums, lowerCurve, upperCurve, high};
+ghost use Rattle.curves.specs.Rows.{leastDelay, raised, lowered, atOrBelow, PathOf, apart, Under, allowed, roof, highRows, upperRows, Kept};
 use job::Job;
 use job::Node;
 
@@ -333,4 +333,114 @@ pub fn upper_row(job: Job, sums: &[u64], i: usize, out: &mut [u64])
 {
     allow(job, sums, i, out);
     start_at_zero(out);
+}
+
+// What the link into node v may have by its own rules, but for slot 0: T(M), and at a leaf D + b too.
+fn roof_row(job: Job, sums: &[u64], v: usize, out: &mut [u64])
+    requires { ⌜ TreeWithin (treeIn job) × (((0 < v) × (v < job .nodes)) × HoldsSums (now sums)) ⌝ }
+    ensures { λ _. ⌜ now (out .exit) ≡ tab (roof (treeIn job) (sumsIn (now (sums .entry))) (lastIn (now (sums .entry))) v) (length (now (out .entry))) ⌝ }
+{
+    let last = sums.len() - 1;
+    level(out, sums[last]);
+    if base::member(job.leaves(), v) {
+        lower_to(out, sums, job.delay[v], job.memory[v]);
+    }
+}
+
+// The same with slot 0.
+fn high_row(job: Job, sums: &[u64], v: usize, out: &mut [u64])
+    requires { ⌜ TreeWithin (treeIn job) × (((0 < v) × (v < job .nodes)) × HoldsSums (now sums)) ⌝ }
+    ensures { λ _. ⌜ now (out .exit) ≡ tab (high (treeIn job) (sumsIn (now (sums .entry))) (lastIn (now (sums .entry))) v) (length (now (out .entry))) ⌝ }
+{
+    roof_row(job, sums, v, out);
+    start_at_zero(out);
+}
+
+// The same for each link, one row after the other.
+fn high_rows(job: Job, sums: &[u64], table: &mut [u64], width: usize)
+    requires { ⌜ TreeWithin (treeIn job) × (HoldsSums (now sums) × (length (now table) ≡ (job .nodes - 1) * width)) ⌝ }
+    ensures { λ _. ⌜ now (table .exit) ≡ highRows (treeIn job) (sumsIn (now (sums .entry))) (lastIn (now (sums .entry))) width (job .nodes - 1) ⌝ }
+{
+    let links = job.nodes - 1;
+    let mut i = 0;
+    let mut start = 0;
+    while i < links {
+        let end = start + width;
+        high_row(job, sums, i + 1, &mut table[start..end]);
+        start = end;
+        i += 1;
+    }
+}
+
+// The upper curves of all links, one row after the other, in two passes over the tree. Where the rows of all links are wanted this costs less
+// than to fill one after the other.
+pub fn upper_rows(job: Job, sums: &[u64], table: &mut [u64], width: usize)
+    requires { ⌜ TreeWithin (treeIn job) × (HoldsSums (now sums) × ((width ≤ mostSlots) × (length (now table) ≡ (job .nodes - 1) * width))) ⌝ }
+    ensures { λ _. ⌜ now (table .exit) ≡ upperRows (treeIn job) (sumsIn (now (sums .entry))) (lastIn (now (sums .entry))) width (job .nodes - 1) ⌝ }
+{
+    high_rows(job, sums, table, width);
+    let parent = job.parent;
+    let memory = job.memory;
+    rows::open_rows(table, &parent, &memory, job.nodes, width);
+}
+
+// Each number less `less`, cut off at 0.
+fn lessen(out: &mut [u64], less: u64)
+    ensures { λ _. ⌜ now (out .exit) ≡ tab (λ k. getD (now (out .entry)) k 0 - less) (length (now (out .entry))) ⌝ }
+{
+    let mut k = 0;
+    while k < out.len() {
+        out[k] = less_by(out[k], less);
+        k += 1;
+    }
+}
+
+// The kept row, which has the lower curve of node c, becomes that of node u: at little cost where c is u or its parent.
+fn keep_row(job: Job, sums: &[u64], c: usize, u: usize, kept: &mut [u64])
+    requires { ⌜ TreeWithin (treeIn job) × (((0 < u) × (u < job .nodes)) × (HoldsSums (now sums) × Kept (treeIn job) (sumsIn (now sums)) c (now kept))) ⌝ }
+    ensures { λ _. ⌜ now (kept .exit) ≡ tab (lowerCurve (treeIn job) (sumsIn (now (sums .entry))) u) (length (now (kept .entry))) ⌝ }
+{
+    if c == u {
+        return;
+    }
+    if c == 0 {
+        lower_row(job, sums, u, kept);
+        return;
+    }
+    if job.parent[u] != c {
+        lower_row(job, sums, u, kept);
+        return;
+    }
+    lessen(kept, job.memory[c]);
+    raise(kept, sums, least_delay(job, u), 0);
+}
+
+// lower_v(0), lower_v(1), .. with the help of a row that is kept from link to link: it has the lower curve of node c before, and that of the
+// node returned after; anything where that node is the root. Where no leaf below the parent starts before those below v, `lower_row` costs least.
+pub fn lower_near(
+    job: Job,
+    sums: &[u64],
+    v: usize,
+    c: usize,
+    kept: &mut [u64],
+    out: &mut [u64],
+) -> usize
+    requires { ⌜ TreeWithin (treeIn job) × (((0 < v) × (v < job .nodes)) × (HoldsSums (now sums) × (Kept (treeIn job) (sumsIn (now sums)) c (now kept) × (length (now kept) ≡ length (now out))))) ⌝ }
+    ensures { λ _. ⌜ now (out .exit) ≡ tab (lowerCurve (treeIn job) (sumsIn (now (sums .entry))) v) (length (now (out .entry))) ⌝ }
+    ensures { λ r. ⌜ Kept (treeIn job) (sumsIn (now (sums .entry))) r (now (kept .exit)) ⌝ }
+{
+    let u = job.parent[v];
+    if u == 0 {
+        lower_row(job, sums, v, out);
+        return c;
+    }
+    let delay = least_delay(job, v);
+    if delay <= least_delay(job, u) {
+        lower_row(job, sums, v, out);
+        return c;
+    }
+    keep_row(job, sums, c, u, kept);
+    shift(out, sums, delay);
+    raise_by(out, kept, job.memory[u]);
+    u
 }

@@ -1,0 +1,122 @@
+-- Laws of the upper rows of all links, filled in two passes over the tree, and of a lower row that comes from its parent's.
+use mathlib.Core.Bool.{Bool, true, false, cond}
+use mathlib.Core.Path.{_≡_, refl, ap, sym, _∙_}
+use mathlib.Core.Logic.{_≢_}
+use mathlib.Core.List.{List, _++_}
+use Prim.Native.Nat.{ℕ, zero, suc, _+_, _-_, _*_, _≤_, _<_, max, min}
+use native.Mathlib.Omega.{arith}
+use native.Mathlib.Decide.{decLt}
+use lib.ListN.{length, getD, set, length-set, List·getD-append, length-append}
+use lib.Seq.{getD-set-same, getD-set-other, getD-append-add}
+use Rattle.base.specs.Table.{tab, rowsOf}
+use Rattle.base.proofs.TableLaws.{length-tab, length-rows, getD-tab, getD-rows, tab-cong}
+use Rattle.base.proofs.PartLaws.{rows-of-cells}
+use Rattle.job.specs.Limits.{greatestTotal}
+use Rattle.job.specs.Tree.{Tree, TreeWithin, leaf}
+use Rattle.smoothing.specs.Tree.{Link, «open»}
+use Rattle.smoothing.specs.Plan.{Problem, upper}
+use Rattle.smoothing.proofs.ClosedLaws.{open-monotone}
+use Rattle.rows.specs.Row.{InRange}
+use Rattle.rows.specs.Closing.{slotIn}
+use Rattle.curves.specs.Curves.{Film, plays, D, lowerCurve, upperCurve, high, problem}
+use Rattle.curves.specs.Rows.{leastDelay, raised, lowered, roof, highRows, upperRows}
+use Rattle.curves.proofs.LowerLaws.{parent-lower, D-leaf, lower-step}
+use Rattle.curves.proofs.UpperLaws.{high-under}
+use Rattle.curves.proofs.CurveEq.{upper-is, D-delay}
+use Rattle.curves.proofs.RowLaws.{row-is}
+
+-- ---- one row of what a link's own rules allow
+
+module _ (t : Tree) (w : TreeWithin t) (T : ℕ → ℕ) (top i n : ℕ) where
+  pub roof-leaf : leaf t i ≡ true → tab (lowered (tab (λ k. top) n) T (t .delay i) (t .memory i)) n ≡ tab (roof t T top i) n
+  unfolding lowered roof
+  roof-leaf e = tab-cong _ _ n (λ k h. rw e (omega (arith, getD-tab (λ k. top) n k h, D-leaf t w T i k e)))
+
+  pub roof-inner : leaf t i ≡ false → tab (λ k. top) n ≡ tab (roof t T top i) n
+  unfolding roof
+  roof-inner e = tab-cong _ _ n (λ k h. rw e refl)
+
+-- a row whose slot 0 becomes 0
+pub zero-slot : (f g : ℕ → ℕ) (n : ℕ) → g 0 ≡ 0 → ((k : ℕ) → f (suc k) ≡ g (suc k)) → set (tab f n) 0 0 ≡ tab g n
+zero-slot f g n z same = row-is g (set (tab f n) 0 0) n (length-set (tab f n) 0 0 ∙ length-tab f n) slot
+  where
+    slot : (k : ℕ) → k < n → getD (set (tab f n) 0 0) k 0 ≡ g k
+    slot zero h = getD-set-same (tab f n) 0 0 0 (rw length-tab h) ∙ sym z
+    slot (suc k) h = getD-set-other (tab f n) 0 (suc k) 0 0 (omega arith) ∙ getD-tab f n (suc k) h ∙ same k
+
+pub high-slots : (t : Tree) (T : ℕ → ℕ) (top i n : ℕ) → set (tab (roof t T top i) n) 0 0 ≡ tab (high t T top i) n
+unfolding roof high
+high-slots t T top i n = zero-slot (roof t T top i) (high t T top i) n refl (λ k. refl)
+
+-- ---- the rows of all links
+
+-- a bound for each row bounds them all
+rows-all : (r : ℕ → List ℕ) (b m : ℕ) → ((i k : ℕ) → k < length (r i) → getD (r i) k 0 ≤ b)
+    → (k : ℕ) → k < length (rowsOf r m) → getD (rowsOf r m) k 0 ≤ b
+unfolding rowsOf
+rows-all r b zero each k h = absurd (omega arith)
+rows-all r b (suc m) each k h = go (decLt k (length (rowsOf r m))) (rows-all r b m each k)
+  where
+    go : Dec (k < length (rowsOf r m)) → (k < length (rowsOf r m) → getD (rowsOf r m) k 0 ≤ b) → getD (rowsOf r m ++ r m) k 0 ≤ b
+    go (yes l) ih = omega (arith, List·getD-append (rowsOf r m) (r m) 0 k l, ih l)
+    go (no l) ih =
+        let e : length (rowsOf r m) + (k - length (rowsOf r m)) ≡ k = omega arith in
+        let at : getD (rowsOf r m ++ r m) k 0 ≡ getD (r m) (k - length (rowsOf r m)) 0 =
+        rw e at (getD-append-add (rowsOf r m) (r m) (k - length (rowsOf r m)) 0) in
+        omega (arith, at, each m (k - length (rowsOf r m)) (omega (arith, length-append (rowsOf r m) (r m))))
+
+module _ (t : Tree) (w : TreeWithin t) (T : ℕ → ℕ) (top n m : ℕ) where
+  pub high-range : top ≤ greatestTotal → InRange (highRows t T top n m)
+  high-range fits =
+      rows-all (λ i. tab (high t T top (suc i)) n) greatestTotal m
+      (λ i k h.
+      omega (arith, getD-tab (high t T top (suc i)) n k (rw length-tab at h), high-under t w T top (suc i) k, fits))
+
+  -- opening looks at the links alone
+  open-links : (f g : ℕ → ℕ) → ((v : ℕ) → Link (t .n) v → f v ≡ g v) → (v : ℕ) → Link (t .n) v
+      → «open» (problem t T top 0 .tree) f v ≡ «open» (problem t T top 0 .tree) g v
+  open-links f g same v h =
+      omega (
+        arith,
+        open-monotone (problem t T top 0 .tree) (parent-lower t w) f g (λ u l. omega (arith, same u l)) v h,
+        open-monotone (problem t T top 0 .tree) (parent-lower t w) g f (λ u l. omega (arith, same u l)) v h,
+      )
+
+  -- what the links' own rules allow, opened at every slot: the upper curves
+  pub opened : m ≡ t .n - 1 → (l r : List ℕ) → l ≡ highRows t T top n m → length r ≡ m * n
+      → ((k : ℕ) → k < n → slotIn n r k ≡ «open» (problem t T top 0 .tree) (slotIn n l k)) → r ≡ upperRows t T top n m
+  unfolding upper
+  opened links l r is long each =
+      rows-of-cells (λ i. upperCurve t T top (suc i)) n m r long
+      (λ i k h q.
+      ap (λ (f : ℕ → ℕ). f (suc i)) (each k q)
+      ∙ open-links (slotIn n l k) (λ v. high t T top v k) (λ v link. cell v link k q) (suc i) (omega arith, omega arith)
+      ∙ sym (upper-is t w T top 0 (suc i) k (omega arith, omega arith)))
+    where
+      cell : (v : ℕ) → Link (t .n) v → (k : ℕ) → k < n → slotIn n l k v ≡ high t T top v k
+      cell zero link k q = absurd (omega (arith, link .0))
+      cell (suc i) link k q =
+          ap (λ (x : List ℕ). getD x (i * n + k) 0) is
+          ∙ getD-rows (λ i. tab (high t T top (suc i)) n) n m i k (λ x. length-tab _ n) (omega (arith, link .1)) q
+          ∙ getD-tab (high t T top (suc i)) n k q
+
+-- ---- a lower row from its parent's
+
+module _ (t : Tree) (w : TreeWithin t) (T : ℕ → ℕ) (top : ℕ) (film : Film T top) (v : ℕ) (link : Link (t .n) v) (inner : t .parent v ≢ 0) (n : ℕ)
+    (l : List ℕ) (above : l ≡ tab (lowerCurve t T (t .parent v)) n) where
+  -- slot by slot
+  from-parent : (k : ℕ) → k < n → lowerCurve t T v k ≡ max (T (k - leastDelay t v)) (getD l k 0 - t .memory (t .parent v))
+  from-parent k h =
+      let at : getD l k 0 ≡ lowerCurve t T (t .parent v) k = ap (λ (x : List ℕ). getD x k 0) above ∙ getD-tab (lowerCurve t T (t .parent v)) n k h in
+      lower-step t w T v k link inner ∙ rw (at, D-delay t w T top 0 film v k (link .1)) refl
+
+  -- in the parent's row itself
+  pub near-own : tab (raised (tab (λ k. getD l k 0 - t .memory (t .parent v)) n) T (leastDelay t v) 0) n ≡ tab (lowerCurve t T v) n
+  unfolding raised
+  near-own =
+      tab-cong _ _ n (λ k h.
+      omega (arith, from-parent k h, getD-tab (λ k. getD l k 0 - t .memory (t .parent v)) n k h))
+
+  -- in a row of its own
+  pub near-other : tab (λ k. max (getD (tab (λ k. T (k - leastDelay t v)) n) k 0) (getD l k 0 - t .memory (t .parent v))) n ≡ tab (lowerCurve t T v) n
+  near-other = tab-cong _ _ n (λ k h. omega (arith, from-parent k h, getD-tab (λ k. T (k - leastDelay t v)) n k h))

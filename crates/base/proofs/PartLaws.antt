@@ -5,9 +5,9 @@ use Prim.Native.Nat.{ℕ, zero, suc, _+_, _-_, _*_, _≤_, _<_}
 use native.Mathlib.Omega.{arith}
 use native.Mathlib.Nat.{suc-mul}
 use lib.ListN.{length, take, drop, getD, length-drop, take-append-drop, List·getD-append}
-use lib.Seq.{getD-append-add, getD-take, getD-drop, length-take-le}
+use lib.Seq.{drop-at, getD-append-add, getD-take, getD-drop, length-take-le, ext-getD}
 use Rattle.base.specs.Table.{tab, rowsOf}
-use Rattle.base.proofs.TableLaws.{tab-cong, tab-of-list, cell-in}
+use Rattle.base.proofs.TableLaws.{tab-cong, tab-of-list, cell-in, length-rows, length-part, getD-rows, row-end}
 
 -- ---- the places of l where the part from a to a + w is replaced by r
 
@@ -50,3 +50,19 @@ rows-of-cells F w (suc m) l h cells =
     let last : drop (m * w) l ≡ tab (F m) w =
     tab-of-list (drop (m * w) l) w rest ∙ tab-cong _ (F m) w (λ k q. getD-drop (m * w) l k 0 ∙ cells m k (omega arith) q) in
     sym (take-append-drop (m * w) l) ∙ rw (first, last)
+
+-- ---- rows that are replaced one after the other
+
+-- where the first i rows have been replaced, the part from a to e, at row i, is still that row
+pub row-left : (r s : ℕ → List ℕ) (w i m a e : ℕ) (p : List ℕ) → ((j : ℕ) → length (r j) ≡ w) → ((j : ℕ) → length (s j) ≡ w)
+    → p ≡ rowsOf r i ++ drop a (rowsOf s m) → i < m → a ≡ i * w → e ≡ a + w → take (e - a) (drop a p) ≡ s i
+row-left r s w i m a e p hr hs is h start end =
+    let n : length (rowsOf r i) ≡ a = length-rows r w i hr ∙ sym start in
+    let rest : drop a p ≡ drop a (rowsOf s m) = rw (is, drop-at (rowsOf r i) (drop a (rowsOf s m)) a n) in
+    let fits : e ≤ length (rowsOf s m) = omega (arith, length-rows s w m hs, row-end i m w h) in
+    let wide : e - a ≡ w = omega arith in
+    let long : length (take (e - a) (drop a (rowsOf s m))) ≡ length (s i) = length-part a e (rowsOf s m) (omega arith) fits ∙ wide ∙ sym (hs i) in
+    rw rest
+    (ext-getD 0 _ (s i) long (λ k q.
+    let short : k < w = omega (arith, long, hs i) in
+    getD-take (e - a) (drop a (rowsOf s m)) k 0 (omega arith) ∙ getD-drop a (rowsOf s m) k 0 ∙ rw start (getD-rows s w m i k hs h short)))

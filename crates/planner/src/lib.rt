@@ -10,10 +10,10 @@ ghost use Rattle.job.specs.Read.{treeIn};
 ghost use Rattle.job.specs.Tree.{TreeWithin};
 ghost use Rattle.smoothing.specs.Lists.{familyIn};
 ghost use Rattle.smoothing.specs.Row.{leastPeak, lazy};
-ghost use Rattle.smoothing.specs.Plan.{linkPeak};
 ghost use Rattle.rows.specs.Search.{Searchable};
-ghost use Rattle.curves.specs.Curves.{upperCurve, sumsIn, lastIn, HoldsSums};
-ghost use Rattle.planner.specs.Work.{Ready, Starves, AllFed, problemIn, lazyRowOf, lazyRowsOf, planRowsOf, peaksOf, widthOf, Worked};
+ghost use Rattle.curves.specs.Curves.{sumsIn, lastIn, HoldsSums};
+ghost use Rattle.curves.specs.Rows.{upperRows};
+ghost use Rattle.planner.specs.Work.{Ready, Starves, AllFed, problemIn, lazyRowsOf, planRowsOf, peaksOf, widthOf, Worked};
 ghost use Rattle.planner.specs.Answer.{rowOf, Answers};
 ghost use Rattle.job.specs.Limits.{mostFrames, mostSlots};
 ghost use Rattle.job.specs.Bytes.{frameCount, jobOf};
@@ -52,45 +52,27 @@ fn starves(job: Job, sums: &[u64], lowers: &mut [u64], uppers: &mut [u64]) -> bo
     found
 }
 
-// The least peak between two rows, with the lazy row at that peak.
-fn fill_row(lowers: &[u64], uppers: &[u64], row: &mut [u64]) -> u64
-    requires { ⌜ Searchable (now lowers) (now uppers) × (length (now row) ≡ length (now lowers)) ⌝ }
-    ensures { λ r. ⌜ r ≡ leastPeak (length (now (lowers .entry)) - 1) (familyIn (now (lowers .entry))) (familyIn (now (uppers .entry))) ⌝ }
+// One link: the least peak between its lower row and its part of the plan, which has its upper row; the lazy row at that peak takes its place.
+fn fill_link(lowers: &[u64], row: &mut [u64]) -> u64
+    requires { ⌜ Searchable (now lowers) (now row) ⌝ }
+    ensures { λ r. ⌜ r ≡ leastPeak (length (now (lowers .entry)) - 1) (familyIn (now (lowers .entry))) (familyIn (now (row .entry))) ⌝ }
     ensures { λ r. ⌜ now (row .exit) ≡ tab (lazy (length (now (lowers .entry)) - 1) r (familyIn (now (lowers .entry)))) (length (now (lowers .entry))) ⌝ }
 {
-    let peak = rows::least_peak(lowers, uppers);
+    let peak = rows::least_peak(lowers, row);
     rows::lazy_row(lowers, peak, row);
     peak
 }
 
-// One link: its least peak, and its lazy row at that peak as its part of the plan.
-fn fill_link(
-    job: Job,
-    sums: &[u64],
-    v: usize,
-    lowers: &mut [u64],
-    uppers: &mut [u64],
-    row: &mut [u64],
-) -> u64
-    requires { ⌜ Ready job (now sums) (now lowers) (now uppers) × (((0 < v) × (v < job .nodes)) × (length (now row) ≡ length (now lowers))) ⌝ }
-    ensures { λ r. ⌜ r ≡ linkPeak (problemIn job (now (sums .entry)) (length (now (lowers .entry)))) v ⌝ }
-    ensures { λ _. ⌜ now (row .exit) ≡ lazyRowOf (problemIn job (now (sums .entry)) (length (now (lowers .entry)))) (length (now (lowers .entry))) (v - 1) ⌝ }
-{
-    curves::lower_row(job, sums, v, lowers);
-    curves::upper_row(job, sums, v, uppers);
-    fill_row(lowers, uppers, row)
-}
-
-// Every link, one after the other, each into its part of the plan; the rows before and after it are kept.
+// Every link, one after the other, each in its part of the plan, which comes with all upper rows; the rows before and after it are kept.
 fn fill(
     job: Job,
     sums: &[u64],
     lowers: &mut [u64],
-    uppers: &mut [u64],
+    kept: &mut [u64],
     plan: &mut [u64],
     peaks: &mut [u64],
 )
-    requires { ⌜ Ready job (now sums) (now lowers) (now uppers) × ((length (now plan) ≡ (job .nodes - 1) * length (now lowers)) × (length (now peaks) ≡ job .nodes - 1)) ⌝ }
+    requires { ⌜ Ready job (now sums) (now lowers) (now kept) × ((now plan ≡ upperRows (treeIn job) (sumsIn (now sums)) (lastIn (now sums)) (length (now lowers)) (job .nodes - 1)) × (length (now peaks) ≡ job .nodes - 1)) ⌝ }
     ensures { λ _. ⌜ now (plan .exit) ≡ lazyRowsOf (problemIn job (now (sums .entry)) (length (now (lowers .entry)))) (length (now (lowers .entry))) (job .nodes - 1) ⌝ }
     ensures { λ _. ⌜ now (peaks .exit) ≡ peaksOf (problemIn job (now (sums .entry)) (length (now (lowers .entry)))) (job .nodes - 1) ⌝ }
 {
@@ -98,9 +80,11 @@ fn fill(
     let width = lowers.len();
     let mut i = 0;
     let mut start = 0;
+    let mut near = 0;
     while i < links {
         let end = start + width;
-        peaks[i] = fill_link(job, sums, i + 1, lowers, uppers, &mut plan[start..end]);
+        near = curves::lower_near(job, sums, i + 1, near, kept, lowers);
+        peaks[i] = fill_link(lowers, &mut plan[start..end]);
         start = end;
         i += 1;
     }
@@ -121,8 +105,9 @@ fn with_rows(
     if starves(job, sums, lowers, uppers) {
         return Answer::Refused(12);
     }
-    fill(job, sums, lowers, uppers, plan, peaks);
     let width = lowers.len();
+    curves::upper_rows(job, sums, plan, width);
+    fill(job, sums, lowers, uppers, plan, peaks);
     let parent = job.parent;
     let memory = job.memory;
     rows::close_rows(plan, lowers, &parent, &memory, job.nodes, width);

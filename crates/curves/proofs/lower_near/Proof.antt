@@ -53,8 +53,7 @@ returns-2 c = search needs
 
 keep-row-requires : tie.Need-keep-row-requires
 keep-row-requires c κs =
-    let st = c .before .before .before .before .before .before .before .before .before in
-    (
+    let st = c .before .before .before .before .before .before .before .before .before in (
       st .pre .0,
       (
         (omega arith, omega (arith, parent-lower (treeIn (st .args .t1)) (st .pre .0) (st .args .v) (st .pre .1 .0), st .pre .1 .0)),
@@ -92,8 +91,7 @@ returns-3 c =
     let same = st .pre .1 .1 .1 .1 in
     let row = c .before .before .before .before .before .before .before .before .before .before .before .before .keep-row .ensures in
     let long = ap length row ∙ length-tab _ _ in
-    let near = near-other _ (st .pre .0) _ _ (film-of (a .sums .now) (st .pre .1 .1 .0)) (a .v) (st .pre .1 .0) (omega (arith, c .before .before .before .before .before .before .before .before .before .before .before .before .before .before .before .before .before .if1 .left)) (length (a .out .now)) _ (rw same at row) in
-    (
+    let near = near-other _ (st .pre .0) _ _ (film-of (a .sums .now) (st .pre .1 .1 .0)) (a .v) (st .pre .1 .0) (omega (arith, c .before .before .before .before .before .before .before .before .before .before .before .before .before .before .before .before .before .if1 .left)) (length (a .out .now)) _ (rw same at row) in (
       c .before .before .raise-by .ensures ∙ rw (c .before .before .before .before .before .before .before .before .shift .ensures, c .before .before .before .before .before .before .before .before .before .before .before .before .before .before .before .before .least-delay .ensures, length-tab) near,
       (omega (arith, lower, st .pre .1 .0), λ ne. rw long row),
     )

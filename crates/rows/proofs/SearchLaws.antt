@@ -1,6 +1,6 @@
 -- Laws for the search for a least peak: one look and one pass from what the code computes, and the range of each number.
-use Prim.Native.Nat.{ℕ, zero, suc, _+_, _-_, _≤_, _<_, max, min}
-use mathlib.Core.Path.{_≡_, refl, _∙_}
+use Prim.Native.Nat.{ℕ, zero, suc, _+_, _-_, _*_, _/_, _≤_, _<_, max, min}
+use mathlib.Core.Path.{_≡_, _∙_}
 use mathlib.Core.Bool.{cond}
 use mathlib.Core.Logic.{⊎-elim}
 use mathlib.Core.List.{List}
@@ -10,11 +10,11 @@ use native.Mathlib.Omega.{arith}
 use lib.Dec.{ltb}
 use lib.ListN.{length}
 use Rattle.smoothing.specs.Row.{ceilDiv, leastPeak}
-use Rattle.smoothing.specs.Newton.{Search, look, pass, nextPeak}
+use Rattle.smoothing.specs.Newton.{Search, every, look, pass}
 use Rattle.base.proofs.BoolLaws.{true-or-false}
 use Rattle.smoothing.proofs.RowLaws.{leastPeak-is-least}
-use Rattle.smoothing.proofs.NewtonPassLaws.{pass-attains}
-use Rattle.smoothing.proofs.NewtonLaws.{nextPeak-more, nextPeak-below, no-excess}
+use Rattle.smoothing.proofs.NewtonPassLaws.{Excess, pass-attains, excess-every, pass-every-one}
+use Rattle.smoothing.proofs.NewtonLaws.{cover-more, cover-below, no-excess}
 use Rattle.rows.specs.Row.{rowIn}
 use Rattle.job.specs.Limits.{greatestTotal}
 use Rattle.rows.specs.Search.{Searchable}
@@ -28,14 +28,14 @@ unfolding look
 look-is lower upper p s reach gap here excess span a b c d e = rw (e, d, c, b, a, add-one)
 
 module _ (lower upper : ℕ → ℕ) (p : ℕ) where
-  pub pass-none : record { reach = upper 0; gap = 0; excess = 0; span = 0 } ≡ pass lower upper p 0
+  pub pass-none : (y : ℕ) → y ≡ upper 0 → record { reach = y; gap = 0; excess = 0; span = 0 } ≡ pass lower upper p 0
   unfolding pass
-  pass-none = refl
+  pass-none y e = rw e
 
-  pub pass-more : (k : ℕ) (s r : Search) → s ≡ pass lower upper p k → r ≡ look (λ _. lower (k + 1)) (λ _. upper k) p 0 s
-      → r ≡ pass lower upper p (k + 1)
+  pub pass-more : (k x y : ℕ) (s r : Search) → s ≡ pass lower upper p k → r ≡ look (λ _. x) (λ _. y) p 0 s
+      → x ≡ lower (k + 1) → y ≡ upper k → r ≡ pass lower upper p (k + 1)
   unfolding pass look
-  pass-more k s r e h = h ∙ rw (e, add-one)
+  pass-more k x y s r e h a b = h ∙ rw (e, a, b, add-one)
 
   pub gap-within : (k : ℕ) → pass lower upper p k .gap ≤ k
   unfolding pass look
@@ -57,24 +57,34 @@ module _ (l u : List ℕ) (s : Searchable l u) where
       one-slot : (j k : ℕ) → j < k → 1 ≤ k - j
       one-slot j k h = omega arith
 
-  -- one step, from the pass at p with what it found
-  module _ (p : ℕ) (found : Search) (is : found ≡ pass (rowIn l) (rowIn u) p (length l - 1)) where
+  -- the pass at p over every stride-th slot
+  abbrev coarse : ℕ → ℕ → Search
+  coarse p stride = pass (every stride (rowIn l)) (every stride (rowIn u)) (p * stride) ((length l - 1) / stride)
+
+  -- one step, from such a pass with what it found
+  module _ (p stride : ℕ) (found : Search) (positive : 0 < stride) (is : found ≡ coarse p stride) where
+    -- the excess that it found is one of two slots
+    attained : 0 < found .excess → Excess (rowIn l) (rowIn u) p (length l - 1) (found .excess) (found .span * stride)
+    attained = rw is (λ h. excess-every (rowIn l) (rowIn u) (length l - 1) p stride positive _ _ (pass-attains _ _ (p * stride) _ h))
+
     -- an excess and its span are in range
-    pub step-range : 0 < found .excess → (found .excess ≤ greatestTotal) × ((0 < found .span) × (found .span ≤ greatestTotal))
-    step-range = rw is go
-      where
-        go : let f = pass (rowIn l) (rowIn u) p (length l - 1) in
-            0 < f .excess → (f .excess ≤ greatestTotal) × ((0 < f .span) × (f .span ≤ greatestTotal))
-        go h =
-            let at = pass-attains (rowIn l) (rowIn u) p (length l - 1) h in
-            let low : rowIn l (at .0) ≤ greatestTotal = s .lower-to (at .0) (omega (arith, at .3, s .some-slot)) in
-            (omega (arith, at .5), (omega (arith, at .2, at .4), omega (arith, at .3, at .4, s .slots-to)))
+    pub step-range : 0 < found .excess
+        → (found .excess ≤ greatestTotal) × ((0 < found .span * stride) × (found .span * stride ≤ greatestTotal))
+    step-range h =
+        let at = attained h in
+        let low : rowIn l (at .0) ≤ greatestTotal = s .lower-to (at .0) (omega (arith, at .3, s .some-slot)) in
+        (omega (arith, at .5), (omega (arith, at .2, at .4), omega (arith, at .3, at .4, s .slots-to)))
 
     -- the next peak is higher, and not above the least
-    pub step-peak : 0 < found .excess → let next = p + ceilDiv (found .excess) (found .span) in (p < next) × (next ≤ least)
-    unfolding nextPeak
-    step-peak = rw is (λ h. (nextPeak-more (rowIn l) (rowIn u) (length l - 1) p h, nextPeak-below (rowIn l) (rowIn u) (length l - 1) p h))
+    pub step-peak : 0 < found .excess → let next = p + ceilDiv (found .excess) (found .span * stride) in (p < next) × (next ≤ least)
+    step-peak h = (
+      cover-more (rowIn l) (rowIn u) (length l - 1) p (found .excess) (found .span * stride) (attained h) h,
+      cover-below (rowIn l) (rowIn u) (length l - 1) p (found .excess) (found .span * stride) (attained h) h,
+    )
 
-    -- with no excess the search is at its end
-    pub step-done : found .excess ≡ 0 → p ≤ least → p ≡ least
-    step-done e h = omega (arith, no-excess (rowIn l) (rowIn u) (length l - 1) p (rw is at e))
+    -- with no excess in any slot the search is at its end
+    pub step-done : found .excess ≡ 0 → p ≤ least → stride ≡ 1 → p ≡ least
+    step-done e h one = omega (arith, no-excess (rowIn l) (rowIn u) (length l - 1) p (rw (all-slots one) at e))
+      where
+        all-slots : stride ≡ 1 → found ≡ pass (rowIn l) (rowIn u) p (length l - 1)
+        all-slots one = rw one at is ∙ pass-every-one (rowIn l) (rowIn u) (length l - 1) p

@@ -12,6 +12,10 @@ use Rattle.rows.specs.declared.Search.{Search}
 abbrev pub searchIn : Search → newton.Search
 searchIn s = record { reach = s .reach; gap = s .gap; excess = s .excess; span = s .span }
 
+-- the longest stride of a search
+abbrev pub longestStride : ℕ
+longestStride = 32
+
 -- a lower and an upper row that the search can go through
 pub record Searchable (lower upper : List ℕ) : Type 0 where
   pub some-slot : 0 < length lower

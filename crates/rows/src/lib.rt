@@ -2,7 +2,7 @@
 // It knows no job: only slices, and the theory in `smoothing`. Definitions to believe: specs/Row, Search, Closing.
 ghost use mathlib.Core.Path.{_≡_};
 ghost use mathlib.Core.Bool.{cond};
-ghost use Prim.Native.Nat.{ℕ, _+_, _-_, _*_, _≤_, _<_, max, min};
+ghost use Prim.Native.Nat.{ℕ, _+_, _-_, _*_, _/_, _≤_, _<_, max, min};
 ghost use lib.ListN.{length, getD};
 ghost use Rattle.base.specs.Table.{tab};
 ghost use Rattle.smoothing.specs.Row.{peak, lazy, ceilDiv, leastPeak};
@@ -13,7 +13,7 @@ ghost use Rattle.rows.specs.Closing.{treeFrom, slotIn, withPart, Closabl
 ghost use Rattle.rows.specs.Opening.{Apart, Openable};
 ghost use Rattle.job.specs.Limits.{greatestTotal, greatestMemory};
 ghost use Rattle.rows.specs.Row.{rowIn, InRange};
-ghost use Rattle.rows.specs.Search.{searchIn, Searchable};
+ghost use Rattle.rows.specs.Search.{searchIn, longestStride, Searchable};
 use job::Job;
 
 fn greater(a: u64, b: u64) -> u64
@@ -106,7 +106,7 @@ pub struct Search {
 impl Search {
     // One look at the peak p: from a slot with this upper value to the next, which has this lower value.
     pub fn look(self, lower: u64, upper: u64, p: u64) -> Search
-        requires { ⌜ (self .gap ≤ greatestTotal) × ((upper ≤ greatestTotal) × (p ≤ greatestTotal)) ⌝ }
+        requires { ⌜ (self .gap ≤ greatestTotal) × ((upper ≤ greatestTotal) × (p ≤ greatestTotal * longestStride)) ⌝ }
         ensures { λ r. ⌜ searchIn r ≡ newton.look (λ _. lower) (λ _. upper) p 0 (searchIn self) ⌝ }
     {
         let nearer = upper < self.reach;
@@ -125,38 +125,56 @@ impl Search {
     }
 }
 
-// A pass over the slots of two rows at the peak p.
-fn pass(lower: &[u64], upper: &[u64], p: u64) -> Search
+// A pass over every `stride`-th slot of two rows at the peak p.
+fn pass(lower: &[u64], upper: &[u64], p: u64, stride: usize) -> Search
     requires { ⌜ Searchable (now lower) (now upper) × (p ≤ greatestTotal) ⌝ }
-    ensures { λ r. ⌜ searchIn r ≡ newton.pass (rowIn (now (lower .entry))) (rowIn (now (upper .entry))) p (length (now (lower .entry)) - 1) ⌝ }
+    requires { ⌜ (0 < stride) × (stride ≤ longestStride) ⌝ }
+    ensures { λ r. ⌜ searchIn r ≡ newton.pass (newton.every stride (rowIn (now (lower .entry)))) (newton.every stride (rowIn (now (upper .entry)))) (p * stride) ((length (now (lower .entry)) - 1) / stride) ⌝ }
 {
-    let last = lower.len() - 1;
+    let rise = p * (stride as u64);
     let mut s = Search {
         reach: upper[0],
         gap: 0,
         excess: 0,
         span: 0,
     };
-    let mut k = 0;
-    while k < last {
-        s = s.look(lower[k + 1], upper[k], p);
-        k += 1;
+    let mut at = 0;
+    let mut next = stride;
+    while next < lower.len() {
+        s = s.look(lower[next], upper[at], rise);
+        at = next;
+        next += stride;
     }
     s
 }
 
-// The least peak between two rows, by Newton's search: passes at higher and higher peaks, until one finds no excess.
+// Newton's search over every `stride`-th slot: passes at higher and higher peaks, until one finds no excess. From a peak that is not
+// above the least it never passes the least, and over every slot it ends there.
+fn search_by(lower: &[u64], upper: &[u64], start: u64, stride: usize) -> u64
+    requires { ⌜ Searchable (now lower) (now upper) × (start ≤ leastPeak (length (now lower) - 1) (rowIn (now lower)) (rowIn (now upper))) ⌝ }
+    requires { ⌜ (0 < stride) × (stride ≤ longestStride) ⌝ }
+    ensures { λ r. ⌜ (start ≤ r) × (r ≤ leastPeak (length (now (lower .entry)) - 1) (rowIn (now (lower .entry))) (rowIn (now (upper .entry)))) ⌝ }
+    ensures { λ r. ⌜ (stride ≡ 1 → r ≡ leastPeak (length (now (lower .entry)) - 1) (rowIn (now (lower .entry))) (rowIn (now (upper .entry)))) ⌝ }
+{
+    let mut p = start;
+    let mut s = pass(lower, upper, p, stride);
+    while s.excess > 0 {
+        p += ceil_div(s.excess, s.span * (stride as u64));
+        s = pass(lower, upper, p, stride);
+    }
+    p
+}
+
+// The stride of the first search.
+const COARSE: usize = 32;
+
+// The least peak between two rows. A search over few slots comes first: it costs little, and leaves few passes over every slot.
 pub fn least_peak(lower: &[u64], upper: &[u64]) -> u64
     requires { ⌜ Searchable (now lower) (now upper) ⌝ }
     ensures { λ r. ⌜ r ≡ leastPeak (length (now (lower .entry)) - 1) (rowIn (now (lower .entry))) (rowIn (now (upper .entry))) ⌝ }
 {
-    let mut p: u64 = 0;
-    let mut s = pass(lower, upper, p);
-    while s.excess > 0 {
-        p += ceil_div(s.excess, s.span);
-        s = pass(lower, upper, p);
-    }
-    p
+    let near = search_by(lower, upper, 0, COARSE);
+    search_by(lower, upper, near, 1)
 }
 
 // Of two rows in one list, the one from place a on raised to the later one from place b on.

@@ -9,7 +9,7 @@ use borrow.Author.Tests.{eq-eqb, ne-eqb}
 use Rattle.smoothing.specs.Row.{ceilDiv, leastPeak}
 use Rattle.smoothing.specs.Newton.{pass, nextPeak, newton, passesMade}
 use Rattle.smoothing.proofs.RowLaws.{ceilDiv-least, ceilDiv-covers, leastPeak-is-least}
-use Rattle.smoothing.proofs.NewtonPassLaws.{pass-bounds, pass-attains, span-none}
+use Rattle.smoothing.proofs.NewtonPassLaws.{Excess, pass-bounds, pass-attains, span-none}
 
 -- ---- products
 
@@ -66,23 +66,25 @@ module _ (lower upper : ℕ → ℕ) (H : ℕ) where
   span-positive : (p : ℕ) → 0 < excess p → 0 < span p
   span-positive p h = let at = pass-attains lower upper p H h in omega (arith, at .2, at .4)
 
-  -- a step takes a higher peak
-  pub nextPeak-more : (p : ℕ) → 0 < excess p → p < nextPeak lower upper H p
-  unfolding nextPeak
-  nextPeak-more p h = go (decLe (ceilDiv (excess p) (span p)) 0)
+  -- an excess at p, covered over its span: a higher peak
+  pub cover-more : (p x g : ℕ) → Excess lower upper p H x g → 0 < x → p < p + ceilDiv x g
+  cover-more p x g at h = go (decLe (ceilDiv x g) 0)
     where
-      go : Dec (ceilDiv (excess p) (span p) ≤ 0) → p < p + ceilDiv (excess p) (span p)
-      go (yes l) = absurd (omega (arith, ceilDiv-covers (excess p) (span p) 0 (span-positive p h) l))
+      go : Dec (ceilDiv x g ≤ 0) → p < p + ceilDiv x g
+      go (yes l) = absurd (omega (arith, ceilDiv-covers x g 0 (omega (arith, at .2, at .4)) l))
       go (no l) = omega arith
 
-  -- and never passes the least peak
+  -- that never passes the least peak
+  pub cover-below : (p x g : ℕ) → Excess lower upper p H x g → 0 < x → p + ceilDiv x g ≤ leastPeak H lower upper
+  cover-below p x g at h =
+      let enough = leastPeak-is-least H lower upper .0 (at .1) (at .0) (at .2) (at .3) in
+      let over = rate-over p (leastPeak H lower upper) g x (omega (arith, at .5, rw (← at .4) at enough)) h in
+      omega (arith, over .0, ceilDiv-least x g (leastPeak H lower upper - p) (omega (arith, at .2, at .4)) (over .1))
+
+  -- so a step never passes it
   pub nextPeak-below : (p : ℕ) → 0 < excess p → nextPeak lower upper H p ≤ leastPeak H lower upper
   unfolding nextPeak
-  nextPeak-below p h =
-      let at = pass-attains lower upper p H h in
-      let enough = leastPeak-is-least H lower upper .0 (at .1) (at .0) (at .2) (at .3) in
-      let over = rate-over p (leastPeak H lower upper) (span p) (excess p) (omega (arith, at .5, rw (← at .4) at enough)) h in
-      omega (arith, over .0, ceilDiv-least (excess p) (span p) (leastPeak H lower upper - p) (span-positive p h) (over .1))
+  nextPeak-below p h = cover-below p (excess p) (span p) (pass-attains lower upper p H h) h
 
   -- where a pass finds no excess, p is at least the least peak
   pub no-excess : (p : ℕ) → excess p ≡ 0 → leastPeak H lower upper ≤ p

@@ -1,13 +1,14 @@
 -- Newton's search, one pass: the excess that it finds bounds that of every slot, and is that of some slot.
-use mathlib.Core.Path.{_≡_, refl, ap, _∙_}
+use mathlib.Core.Path.{_≡_, refl, ap, fun-ext, _∙_}
 use mathlib.Core.Logic.{⊎-elim}
-use Prim.Native.Nat.{ℕ, zero, suc, _+_, _-_, _*_, _≤_, _<_}
+use Prim.Native.Nat.{ℕ, zero, suc, _+_, _-_, _*_, _/_, _≤_, _<_}
+use native.Mathlib.Nat.{mul-one, mul-sub, mul-lt-mul-of-pos-right, le-div-iff-mul-le, div-one}
 use native.Mathlib.Omega.{arith}
 use native.Mathlib.Decide.{decLt}
 use lib.Dec.{ltb}
 use borrow.Author.Tests.{ltb-true, ltb-false, lt-ltb, le-ltb}
 use Rattle.base.proofs.BoolLaws.{true-or-false, last-or-below}
-use Rattle.smoothing.specs.Newton.{look, pass}
+use Rattle.smoothing.specs.Newton.{every, look, pass}
 use Rattle.smoothing.proofs.RowLaws.{times-more}
 
 module _ (lower upper : ℕ → ℕ) (p : ℕ) where
@@ -103,3 +104,25 @@ module _ (lower upper : ℕ → ℕ) (p : ℕ) where
           Dec (s .excess < lower (suc k) - s′ .reach) → (s .excess ≡ 0 → s .span ≡ 0) → s′ .span ≡ 0
       go (yes l) ih = absurd (omega (arith, look-new k l))
       go (no l) ih = let same = look-kept k (omega arith) in same .1 ∙ ih (omega arith)
+
+-- ---- a coarse pass
+
+module _ (lower upper : ℕ → ℕ) (H p : ℕ) where
+  -- an excess over every stride-th slot is one over every slot
+  pub excess-every : (stride : ℕ) → 0 < stride → (x g : ℕ)
+      → Excess (every stride lower) (every stride upper) (p * stride) (H / stride) x g → Excess lower upper p H x (g * stride)
+  excess-every stride h x g at = (
+    at .0 * stride,
+    at .1 * stride,
+    mul-lt-mul-of-pos-right (at .2) h,
+    le-div-iff-mul-le h .0 (at .3),
+    rw (at .4) (omega (arith, mul-sub stride (at .0) (at .1))),
+    omega (arith, at .5),
+  )
+
+  -- at stride 1 the pass is that over every slot
+  pub pass-every-one : pass (every 1 lower) (every 1 upper) (p * 1) (H / 1) ≡ pass lower upper p H
+  pass-every-one = rw (mul-one p, div-one H, every-one lower, every-one upper)
+    where
+      every-one : (row : ℕ → ℕ) → every 1 row ≡ row
+      every-one row = fun-ext (λ k. ap row (mul-one k))

@@ -1,6 +1,6 @@
 -- Newton's search for the least peak between two rows: look by look, slot by slot, pass by pass.
 use mathlib.Core.Bool.{cond}
-use Prim.Native.Nat.{ℕ, zero, suc, _+_, _-_, max, min}
+use Prim.Native.Nat.{ℕ, zero, suc, _+_, _-_, _*_, max, min}
 use lib.Dec.{eqb, ltb}
 use Rattle.smoothing.specs.Row.{ceilDiv}
 
@@ -13,6 +13,10 @@ pub record Search : Type 0 where
   pub gap : ℕ
   pub excess : ℕ
   pub span : ℕ
+
+-- a row at every stride-th slot: with p * stride for p, a pass over two such rows is a coarse one at p
+abbrev pub every : ℕ → (ℕ → ℕ) → ℕ → ℕ
+every stride row k = row (k * stride)
 
 module _ (lower upper : ℕ → ℕ) where
   -- one look at peak p: from slot k to the next, whose lower value is weighed

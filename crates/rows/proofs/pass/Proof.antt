@@ -1,5 +1,6 @@
-use Prim.Native.Nat.{_-_, _≤_}
+use Prim.Native.Nat.{ℕ, _+_, _-_, _*_, _/_, _≤_, _<_}
 use mathlib.Core.Path.{_≡_, ap}
+use native.Mathlib.Nat.{mul-le-mul, mul-le-mul-left, div-eq-of-lt-le}
 use lib.ListN.{length}
 use Rattle.rows.specs.Row.{rowIn}
 use Rattle.smoothing.specs.Newton as newton
@@ -14,22 +15,28 @@ use Rattle.rows.proofs.pass.Lts as lts
 use Rattle.rows.proofs.Search.look.Reads as look-reads
 
 abbrev Inv-loop : tie.InvT-loop
-Inv-loop lower upper p last s₀ k₀ s k = (k ≤ last) × (searchIn s ≡ newton.pass (rowIn lower) (rowIn upper) p k)
+Inv-loop lower upper p stride rise s₀ at₀ next₀ s at next =
+    (k : ℕ) × (at ≡ k * stride) × (next ≡ at + stride) × (at < length lower)
+    × (searchIn s ≡ newton.pass (newton.every stride (rowIn lower)) (newton.every stride (rowIn upper)) (p * stride) k)
 
 abbrev μ-loop : tie.MeasureT-loop
-μ-loop lower upper p last s₀ k₀ s k = last - k
+μ-loop lower upper p stride rise s₀ at₀ next₀ s at next = length lower - at
 
-sub-last : tie.Need-sub-last Inv-loop μ-loop
-sub-last c = search needs
+mul-rise : tie.Need-mul-rise Inv-loop μ-loop
+mul-rise c = omega (arith, mul-le-mul (c .before .before .pre .0 .1) (c .before .before .pre .1 .1))
 
 shared-slice-read-t9 : tie.Need-shared-slice-read-t9 Inv-loop μ-loop
 shared-slice-read-t9 c = search needs
 
 loop-holds : tie.Need-loop-holds Inv-loop μ-loop
-loop-holds c = (omega arith, pass-none _ _ _)
-
-add-look : tie.Need-add-look Inv-loop μ-loop
-add-look c = search needs
+loop-holds c =
+    let st = c .before .before .before in (
+      0,
+      omega arith,
+      omega arith,
+      omega (arith, st .pre .0 .0 .some-slot),
+      pass-none _ _ _ _ (ap (rowIn (st .args .upper .now)) (omega arith)),
+    )
 
 mul-look : tie.Need-mul-look Inv-loop μ-loop
 mul-look c = search needs
@@ -47,11 +54,15 @@ look-requires : tie.Need-look-requires Inv-loop μ-loop
 look-requires c κs =
     let l = c .before .before .before .loop in
     let st = c .before .before .before .before .before .before .before in
-    let gap : l .s .gap ≤ l .k = rw (← ap (λ (s : newton.Search). s .gap) (l .inv .1)) at (gap-within (rowIn (st .args .lower .now)) (rowIn (st .args .upper .now)) (st .args .p) (l .k)) in
-    (omega (arith, st .pre .0 .slots-to), (st .pre .0 .upper-to (l .k) (omega (arith, st .pre .0 .same-slots)), st .pre .1))
+    let k = l .inv .0 in
+    let gap : l .s .gap ≤ k = rw (← ap (λ (s : newton.Search). s .gap) (l .inv .4)) at (gap-within (newton.every (st .args .stride) (rowIn (st .args .lower .now))) (newton.every (st .args .stride) (rowIn (st .args .upper .now))) (st .args .p * st .args .stride) k) in
+    let within : k * 1 ≤ l .at = rw (l .inv .1) (mul-le-mul-left k (st .pre .1 .0)) in (
+      omega (arith, st .pre .0 .0 .slots-to),
+      (st .pre .0 .0 .upper-to (l .at) (omega (arith, st .pre .0 .0 .same-slots)), mul-le-mul (st .pre .0 .1) (st .pre .1 .1)),
+    )
 
-add-k : tie.Need-add-k Inv-loop μ-loop
-add-k c = search needs
+add-next : tie.Need-add-next Inv-loop μ-loop
+add-next c = search needs
 
 loop-less : tie.Need-loop-less Inv-loop μ-loop
 loop-less c = search needs
@@ -59,13 +70,22 @@ loop-less c = search needs
 loop-again : tie.Need-loop-again Inv-loop μ-loop
 loop-again c =
     let l = c .before .before .before .before .loop in
-    (omega arith, pass-more _ _ _ (l .k) (searchIn (l .s)) (searchIn (c .look .result)) (l .inv .1) (c .look .ensures))
+    let st = c .before .before .before .before .before .before .before .before in
+    let k = l .inv .0 in (
+      k + 1,
+      omega arith,
+      omega arith,
+      omega arith,
+      pass-more _ _ _ k _ _ (searchIn (l .s)) (searchIn (c .look .result)) (l .inv .4) (c .look .ensures)
+          (ap (rowIn (st .args .lower .now)) (omega arith)) (ap (rowIn (st .args .upper .now)) (l .inv .1)),
+    )
 
 returns : tie.Need-returns Inv-loop μ-loop
 returns c =
     let l = c .before .loop in
-    let e : l .k ≡ length (c .before .before .before .before .before .args .lower .now) - 1 = omega arith in
-    rw e at (l .inv .1)
+    let st = c .before .before .before .before .before in
+    let e : (length (st .args .lower .now) - 1) / st .args .stride ≡ l .inv .0 = div-eq-of-lt-le (st .args .stride) (omega arith) (omega arith) in
+    rw e (l .inv .4)
 
 pub pass-spec : {M : Type 1} → statement M
 pass-spec =
@@ -73,16 +93,15 @@ pass-spec =
     (tie.spec
     Inv-loop
     μ-loop
-    sub-last
+    mul-rise
     shared-slice-read-t9
     loop-holds
-    add-look
     mul-look
     shared-slice-read-look
     mul-look-2
     shared-slice-read-look-2
     look-requires
-    add-k
+    add-next
     loop-less
     loop-again
     returns)

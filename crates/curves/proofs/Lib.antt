@@ -7,6 +7,7 @@ pub mod RowLaws
 pub mod LowerRowLaws
 pub mod PathLaws
 pub mod WalkLaws
+pub mod ChoiceLaws
 pub mod UpperRowLaws
 pub mod MidLaws
 mod Examples

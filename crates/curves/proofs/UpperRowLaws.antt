@@ -1,102 +1,56 @@
--- Laws of the loop that fills a row with the upper curve of node i: it takes in the leaves of its part of the tree, one after the other.
-use mathlib.Core.Bool.{Bool, true, false, not, _&&_}
-use mathlib.Core.Path.{_≡_, refl, ap, sym, _∙_}
+-- Laws of the row with the upper curve of node i: what the leaves of its part of the tree allow.
+use mathlib.Core.Bool.{true, _&&_}
+use mathlib.Core.Path.{_≡_, refl, sym, _∙_}
 use mathlib.Core.List.{List, [], _∷_}
-use mathlib.Core.Logic.{_⊎_, inl, inr, ⊎-elim}
-use Prim.Native.Nat.{ℕ, zero, suc, _+_, _-_, _^_, _≤_, _<_, min}
+use Prim.Native.Nat.{ℕ, zero, suc, _+_, _≤_, _<_}
 use native.Mathlib.Omega.{arith}
-use native.Mathlib.Decide.{ℕ-discrete}
-use borrow.Author.Tests.{ne-eqb}
-use lib.Dec.{eqb}
 use lib.ListN.{length, getD, set, length-set}
 use lib.Seq.{getD-set-same, getD-set-other}
-use Rattle.base.specs.Range.{first}
-use Rattle.base.specs.Set.{has, wordBits}
+use Rattle.base.specs.Set.{has}
 use Rattle.base.specs.Table.{tab}
-use Rattle.base.proofs.BoolLaws.{not-both, and-left, and-right, and-true}
-use Rattle.base.proofs.SetLaws.{has-none, first-in}
-use Rattle.base.proofs.TableLaws.{length-tab, getD-tab}
-use Rattle.job.specs.Limits.{mostNodes}
+use Rattle.base.proofs.BoolLaws.{and-left, and-right}
+use Rattle.base.proofs.TableLaws.{length-tab, getD-tab, tab-cong}
+use Rattle.job.specs.Limits.{longestDelay}
 use Rattle.job.specs.Tree.{Tree, TreeWithin, leaf}
+use Rattle.job.proofs.TreeLaws.{leaf-in, link-is}
 use Rattle.smoothing.specs.Tree.{Link}
-use Rattle.curves.specs.Curves.{Film, plays, D, room, leastUp, upperCurve}
-use Rattle.curves.specs.Rows.{lowered, atOrBelow, PathOf, apart, Under, allowed}
+use Rattle.curves.specs.Curves.{upperCurve}
+use Rattle.curves.specs.Rows.{atOrBelow, PathOf, apart, allowedBy, allowed}
 use Rattle.curves.proofs.LowerLaws.{D-leaf}
 use Rattle.curves.proofs.UpperLaws.{room-leaf}
-use Rattle.curves.proofs.PathLaws.{reach, leaves-settle}
+use Rattle.curves.proofs.PathLaws.{at-link, reach, leaves-settle}
+use Rattle.curves.proofs.ChoiceLaws.{by-top, by-each, by-over}
 use Rattle.curves.proofs.RowLaws.{row-is}
 
--- What holds when the leaves of the part below `high` that are not in `rest` have been taken in.
-pub record UpperSoFar (t : Tree) (T : ℕ → ℕ) (top i path high n rest : ℕ) (taken l : List ℕ) : Type 0 where
-  pub fits : rest < 2 ^ 64
-  pub long : length l ≡ n
-  pub left : (j : ℕ) → has rest j ≡ true → (leaf t j ≡ true) × (atOrBelow t high j ≡ true)
-  pub above : (k : ℕ) → k < n → allowed t T top i k ≤ getD l k 0
-  pub below-top : (k : ℕ) → k < n → getD l k 0 ≤ top
-  pub under : Under l T (t .delay) taken
-  pub done : (j : ℕ) → leaf t j ≡ true → atOrBelow t high j ≡ true
-      → (has rest j ≡ true) ⊎ ((k : ℕ) → k < n → getD l k 0 ≤ plays t T j k + (t .memory j + apart t (has path) j))
+-- ---- the leaves at or below the highest node of a path
 
-module _ (t : Tree) (w : TreeWithin t) (T : ℕ → ℕ) (top i path high : ℕ) (p : PathOf t i path high) (link : Link (t .n) i) where
-  pub upper-start : (rest m : ℕ) (taken l : List ℕ) → rest < 2 ^ 64 → length taken ≡ mostNodes → ((j : ℕ) → has rest j ≡ (leaf t j && atOrBelow t high j))
-      → ((m : ℕ) → m < mostNodes → getD taken m 0 ≡ top) → l ≡ tab (λ k. top) m → UpperSoFar t T top i path high (length l) rest taken l
+module _ (t : Tree) (w : TreeWithin t) (i path high : ℕ) (p : PathOf t i path high) (set : ℕ) (is : (j : ℕ) → has set j ≡ (leaf t j && atOrBelow t high j)) where
+  pub upper-leaf : (j : ℕ) → has set j ≡ true → (leaf t j ≡ true) × (atOrBelow t high j ≡ true)
+  upper-leaf j h =
+      let b : (leaf t j && atOrBelow t high j) ≡ true = sym (is j) ∙ h in
+      (and-left (leaf t j) (atOrBelow t high j) b, and-right (leaf t j) (atOrBelow t high j) b)
+
+  pub upper-delay : (j : ℕ) → has set j ≡ true → t .delay j ≤ longestDelay
+  upper-delay j h =
+      let (f, g) = upper-leaf j h in
+      let q = at-link t w high j (p .top-link) g in
+      w .leaf-delays j (link-is (t .n) j (q .0) (q .1)) f
+
+  -- what they allow with the memories from each up to the path is the upper curve
+  pub upper-leaves : (T : ℕ → ℕ) (top : ℕ) (plus : ℕ → ℕ) → Link (t .n) i → ((j : ℕ) → has set j ≡ true → plus j ≡ t .memory j + apart t (has path) j)
+      → (n : ℕ) → tab (allowedBy T top set (t .delay) plus) n ≡ tab (allowed t T top i) n
   unfolding allowed
-  upper-start rest m taken l fits places is all e =
-      let long : length l ≡ m = rw e (length-tab _ m) in
-      let at : (k : ℕ) → k < length l → getD l k 0 ≡ top = λ k q. rw e (getD-tab (λ k. top) m k (omega arith)) in
-      record {
-        fits = fits;
-        long = refl;
-        left = λ j h.
-            let b : (leaf t j && atOrBelow t high j) ≡ true = sym (is j) ∙ h in
-            (and-left (leaf t j) (atOrBelow t high j) b, and-right (leaf t j) (atOrBelow t high j) b);
-        above = λ k q. omega (arith, at k q);
-        below-top = λ k q. omega (arith, at k q);
-        under = record { places = places; each = λ m k q r. omega (arith, at k r, all m q) };
-        done = λ j f g. inl (is j ∙ rw (f, g));
-      }
-
-  module _ (n rest : ℕ) (taken l : List ℕ) (s : UpperSoFar t T top i path high n rest taken l) where
-    pub upper-leaf : 0 < rest → (leaf t (first (has rest) wordBits) ≡ true) × (atOrBelow t high (first (has rest) wordBits) ≡ true)
-    upper-leaf some = s .left (first (has rest) wordBits) (first-in rest (s .fits) some)
-
-    pub upper-next : (j plus next : ℕ) (taken′ l′ : List ℕ) → next ≤ rest → leaf t j ≡ true → atOrBelow t high j ≡ true → plus ≡ t .memory j + apart t (has path) j
-        → ((x : ℕ) → has next x ≡ (has rest x && not (eqb x j))) → l′ ≡ tab (lowered l T (t .delay j) plus) (length l) → Under l′ T (t .delay) taken′
-        → UpperSoFar t T top i path high n next taken′ l′
-    unfolding lowered allowed
-    upper-next j plus next taken′ l′ less f g el out e under =
-        let at : (k : ℕ) → k < n → getD l′ k 0 ≡ min (getD l k 0) (plays t T j k + plus) = λ k q. rw e (getD-tab _ (length l) k (omega (arith, s .long))) in
-        record {
-          fits = omega (arith, s .fits);
-          long = rw e (length-tab _ (length l)) ∙ s .long;
-          left = λ x h. s .left x (and-left (has rest x) (not (eqb x j)) (sym (out x) ∙ h));
-          above = λ k q. omega (arith, at k q, s .above k q, reach t w i path high p link T k j g, room-leaf t w T j k f, D-leaf t w T j k f);
-          below-top = λ k q. omega (arith, at k q, s .below-top k q);
-          under = under;
-          done = λ x f g. next-done at x (ℕ-discrete x j) (s .done x f g);
-        }
-      where
-        next-done : ((k : ℕ) → k < n → getD l′ k 0 ≡ min (getD l k 0) (plays t T j k + plus)) → (x : ℕ) → Dec (x ≡ j)
-            → (has rest x ≡ true) ⊎ ((k : ℕ) → k < n → getD l k 0 ≤ plays t T x k + (t .memory x + apart t (has path) x))
-            → (has next x ≡ true) ⊎ ((k : ℕ) → k < n → getD l′ k 0 ≤ plays t T x k + (t .memory x + apart t (has path) x))
-        next-done at x (yes z) c = inr (λ k q. rw z (omega (arith, at k q)))
-        next-done at x (no ne) (inl h) = inl (out x ∙ rw (h, ne-eqb x j ne))
-        next-done at x (no ne) (inr h) = inr (λ k q. omega (arith, at k q, h k q))
-
-    pub upper-done : rest ≡ 0 → l ≡ tab (allowed t T top i) n
-    unfolding allowed
-    upper-done z = row-is (allowed t T top i) l n (s .long) (λ k q.
-        omega (
-          arith,
-          s .above k q,
-          s .below-top k q,
-          leaves-settle t w i path high p link T k (getD l k 0) (λ j f g. taken-in k q j (s .done j f g)),
-        ))
-      where
-        taken-in : (k : ℕ) → k < n → (j : ℕ) → (has rest j ≡ true) ⊎ ((k : ℕ) → k < n → getD l k 0 ≤ plays t T j k + (t .memory j + apart t (has path) j))
-            → getD l k 0 ≤ plays t T j k + (t .memory j + apart t (has path) j)
-        taken-in k q j (inl h) = absurd (not-both h (rw z (has-none j)))
-        taken-in k q j (inr h) = h k q
+  upper-leaves T top plus link adds n = tab-cong (allowedBy T top set (t .delay) plus) (allowed t T top i) n (λ k q.
+      omega (
+        arith,
+        by-top T top set (t .delay) plus k,
+        leaves-settle t w i path high p link T k (allowedBy T top set (t .delay) plus k) (λ j f g.
+            let m : has set j ≡ true = is j ∙ rw (f, g) in
+            omega (arith, by-each T top set (t .delay) plus k j (omega (arith, leaf-in t j f, w .nodes-to)) m, adds j m)),
+        by-over T top set (t .delay) plus k (allowed t T top i k) (omega arith) (λ j m.
+            let (f, g) = upper-leaf j m in
+            omega (arith, adds j m, reach t w i path high p link T k j g, room-leaf t w T j k f, D-leaf t w T j k f)),
+      ))
 
 -- ---- slot 0
 

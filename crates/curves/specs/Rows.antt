@@ -5,9 +5,9 @@ use mathlib.Core.Logic.{_≢_}
 use mathlib.Core.List.{List}
 use Prim.Native.Nat.{ℕ, zero, suc, _+_, _-_, _≤_, _<_, max, min}
 use lib.Dec.{eqb, ltb}
-use lib.ListN.{length, getD}
-use Rattle.base.specs.Range.{leastOver}
-use Rattle.base.specs.Set.{has}
+use lib.ListN.{getD}
+use Rattle.base.specs.Range.{fold, leastOver}
+use Rattle.base.specs.Set.{has, wordBits}
 use Rattle.job.specs.Limits.{mostNodes}
 use Rattle.job.specs.Tree.{Tree, leaf, below}
 use Rattle.base.specs.Table.{tab, rowsOf}
@@ -48,10 +48,15 @@ apartIn t path (suc steps) v =
 unfoldable pub apart : Tree → (ℕ → Bool) → ℕ → ℕ
 apart t path v = apartIn t path v v
 
--- no slot of a row passes what the leaves taken in allow: node m allows T(k - its delay) and what `taken` has for it
-pub record Under (l : List ℕ) (T delay : ℕ → ℕ) (taken : List ℕ) : Type 0 where
-  pub places : length taken ≡ mostNodes
-  pub each : (m k : ℕ) → m < mostNodes → k < length l → getD l k 0 ≤ T (k - delay m) + getD taken m 0
+-- r is, of the members of a set with a delay of at least `past`, one that adds the least; or no node, and none of them adds less than most
+pub record Nearest (set : ℕ) (delay plus : ℕ → ℕ) (past most r : ℕ) : Type 0 where
+  pub chosen : r < mostNodes → (has set r ≡ true) × (past ≤ delay r)
+  pub least : r < mostNodes → (m : ℕ) → has set m ≡ true → past ≤ delay m → plus r ≤ plus m
+  pub none : mostNodes ≤ r → (m : ℕ) → has set m ≡ true → past ≤ delay m → most ≤ plus m
+
+-- what the members of a set allow by slot k: the least of top and, of each of them, T(k - its delay) and what it adds
+unfoldable pub allowedBy : (ℕ → ℕ) → ℕ → ℕ → (ℕ → ℕ) → (ℕ → ℕ) → ℕ → ℕ
+allowedBy T top set delay plus k = fold (λ g m. min g (T (k - delay m) + plus m)) top (has set) wordBits
 
 -- the upper curve but for slot 0
 unfoldable pub allowed : Tree → (ℕ → ℕ) → ℕ → ℕ → ℕ → ℕ

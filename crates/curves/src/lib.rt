@@ -1,18 +1,18 @@
 // The curves of document 01: one function fills a row with a node's lower curve, one with its upper curve.
 // Definitions to believe: specs/Curves; what the functions below work with: specs/Rows.
-ghost use mathlib.Core.Bool.{true, _&&_};
+ghost use mathlib.Core.Bool.{true, _&&_, _||_};
 ghost use mathlib.Core.Path.{_≡_};
 ghost use Prim.Native.Nat.{ℕ, _+_, _-_, _*_, _≤_, _<_, max, min};
-ghost use lib.Dec.{leb};
+ghost use lib.Dec.{eqb, ltb};
 ghost use lib.ListN.{length, getD, set};
-ghost use Rattle.base.specs.Range.{some, fold};
+ghost use Rattle.base.specs.Range.{fold};
 ghost use Rattle.base.specs.Set.{has, wordBits};
 ghost use Rattle.base.specs.Table.{tab};
 ghost use Rattle.job.specs.Limits.{mostNodes, mostFrames, mostSlots, longestDelay, greatestMemory, greatestFrame};
 ghost use Rattle.job.specs.Tree.{TreeWithin, leaf};
 ghost use Rattle.job.specs.Read.{treeIn};
 ghost use Rattle.curves.specs.Curves.{sumsIn, lastIn, HoldsSums, lowerCurve, upperCurve, high};
-ghost use Rattle.curves.specs.Rows.{leastDelay, raised, lowered, atOrBelow, PathOf, apart, Under, allowed, roof, highRows, upperRows, Kept};
+ghost use Rattle.curves.specs.Rows.{leastDelay, raised, lowered, atOrBelow, PathOf, apart, Nearest, allowedBy, allowed, roof, highRows, upperRows, Kept};
 use job::Job;
 use job::Node;
 
@@ -249,72 +249,93 @@ fn reach(job: Job, path: Path, v: usize) -> u64
     total
 }
 
-// Whether a delay is no shorter than `delay` and memories are no more than `plus`: such a leaf allows no more at any slot.
-fn covers(least: usize, most: u64, delay: usize, plus: u64) -> bool
-    ensures { λ r. ⌜ r ≡ (leb delay least && leb most plus) ⌝ }
+// What each member of a set adds: its memory and those of the nodes above it up to the first one on the path.
+fn reaches(job: Job, path: Path, set: u64) -> [u64; Job::MOST_NODES]
+    requires { ⌜ TreeWithin (treeIn job) × ((has (path .set) (path .top) ≡ true) × (((0 < path .top) × (path .top < job .nodes)) × ((l : ℕ) → has set l ≡ true → atOrBelow (treeIn job) (path .top) l ≡ true))) ⌝ }
+    ensures { λ r. ⌜ ((l : ℕ) → has set l ≡ true → (getD r l 0 ≡ treeIn job .memory l + apart (treeIn job) (has (path .set)) l) × (getD r l 0 ≤ mostNodes * greatestMemory)) ⌝ }
 {
-    if least < delay {
-        return false;
+    let mut plus: [u64; Job::MOST_NODES] = [0; Job::MOST_NODES];
+    let mut rest = set;
+    while rest != 0 {
+        let l = base::lowest(rest);
+        plus[l] = reach(job, path, l);
+        rest = base::without_lowest(rest);
     }
-    most <= plus
+    plus
 }
 
-// Whether one of those taken in covers a leaf with this delay and these memories.
-fn covered(
+// Whether one leaf goes before another: it adds less, or as much with a longer delay.
+fn nearer(plus: u64, delay: usize, least: u64, late: usize) -> bool
+    ensures { λ r. ⌜ r ≡ (ltb plus least || (eqb plus least && ltb late delay)) ⌝ }
+{
+    if plus == least {
+        return late < delay;
+    }
+    plus < least
+}
+
+// Of the members with a delay of at least `past`, the one that adds the least; no node's number where none adds less than `most`.
+fn nearest(
+    set: u64,
     delays: &[usize; Job::MOST_NODES],
-    taken: &[u64; Job::MOST_NODES],
-    delay: usize,
-    plus: u64,
-) -> bool
-    ensures { λ r. ⌜ r ≡ some (λ m. leb delay (getD (now (delays .entry)) m 0) && leb (getD (now (taken .entry)) m 0) plus) mostNodes ⌝ }
+    plus: &[u64; Job::MOST_NODES],
+    past: usize,
+    most: u64,
+) -> usize
+    ensures { λ r. ⌜ Nearest set (λ m. getD (now (delays .entry)) m 0) (λ m. getD (now (plus .entry)) m 0) past most r ⌝ }
 {
-    let mut m = 0;
-    while m < Job::MOST_NODES {
-        if covers(delays[m], taken[m], delay, plus) {
-            return true;
+    let mut best = Job::MOST_NODES;
+    let mut least = most;
+    let mut late = Node::LONGEST_DELAY;
+    let mut rest = set;
+    while rest != 0 {
+        let l = base::lowest(rest);
+        rest = base::without_lowest(rest);
+        let delay = delays[l];
+        if past <= delay && nearer(plus[l], delay, least, late) {
+            best = l;
+            least = plus[l];
+            late = delay;
         }
-        m += 1;
     }
-    false
+    best
 }
 
-// A leaf is taken in, with the memories from it up to the path; nothing is to do where one taken in before covers it. `taken` has the
-// memories of the leaves taken in, and T(M) elsewhere.
-fn take_leaf(
+// T(M) in every slot, and then what each member of a set allows, T(k - delay) and what it adds, over all slots before the next. Taken in
+// are the one that adds the least, of those that start later the one that adds the least, and so on: any other starts no later than
+// one of these and adds no less.
+fn take_leaves(
     out: &mut [u64],
     sums: &[u64],
+    set: u64,
     delays: &[usize; Job::MOST_NODES],
-    taken: &mut [u64; Job::MOST_NODES],
-    l: usize,
-    plus: u64,
+    plus: &[u64; Job::MOST_NODES],
 )
-    requires { ⌜ HoldsSums (now sums) × (((l < mostNodes) × (plus ≤ mostNodes * greatestMemory)) × Under (now out) (sumsIn (now sums)) (λ m. getD (now delays) m 0) (now taken)) ⌝ }
-    ensures { λ _. ⌜ (now (out .exit) ≡ tab (lowered (now (out .entry)) (sumsIn (now (sums .entry))) (getD (now (delays .entry)) l 0) plus) (length (now (out .entry)))) × Under (now (out .exit)) (sumsIn (now (sums .entry))) (λ m. getD (now (delays .entry)) m 0) (now (taken .exit)) ⌝ }
+    requires { ⌜ HoldsSums (now sums) × ((m : ℕ) → has set m ≡ true → (getD (now delays) m 0 ≤ longestDelay) × (getD (now plus) m 0 ≤ mostNodes * greatestMemory)) ⌝ }
+    ensures { λ _. ⌜ now (out .exit) ≡ tab (allowedBy (sumsIn (now (sums .entry))) (lastIn (now (sums .entry))) set (λ m. getD (now (delays .entry)) m 0) (λ m. getD (now (plus .entry)) m 0)) (length (now (out .entry))) ⌝ }
 {
-    let delay = delays[l];
-    if !covered(delays, taken, delay, plus) {
-        lower_to(out, sums, delay, plus);
-        taken[l] = plus;
+    let last = sums.len() - 1;
+    let most = sums[last];
+    level(out, most);
+    let mut past = 0;
+    let mut l = nearest(set, delays, plus, past, most);
+    while l < Job::MOST_NODES {
+        lower_to(out, sums, delays[l], plus[l]);
+        past = delays[l] + 1;
+        l = nearest(set, delays, plus, past, most);
     }
 }
 
-// T(M) in every slot, and then what each leaf allows that shares with node i an ancestor below the root, over all slots before the next.
+// What the leaves allow that share with node i an ancestor below the root.
 fn allow(job: Job, sums: &[u64], i: usize, out: &mut [u64])
     requires { ⌜ TreeWithin (treeIn job) × (((0 < i) × (i < job .nodes)) × HoldsSums (now sums)) ⌝ }
     ensures { λ _. ⌜ now (out .exit) ≡ tab (allowed (treeIn job) (sumsIn (now (sums .entry))) (lastIn (now (sums .entry))) i) (length (now (out .entry))) ⌝ }
 {
-    let last = sums.len() - 1;
-    let most = sums[last];
     let delays = job.delay;
     let path = path_up(job, i);
-    let mut rest = leaves_at(job, path.top);
-    let mut taken = [most; Job::MOST_NODES];
-    level(out, most);
-    while rest != 0 {
-        let l = base::lowest(rest);
-        take_leaf(out, sums, &delays, &mut taken, l, reach(job, path, l));
-        rest = base::without_lowest(rest);
-    }
+    let set = leaves_at(job, path.top);
+    let plus = reaches(job, path, set);
+    take_leaves(out, sums, set, &delays, &plus);
 }
 
 // Slot 0 of a row becomes 0.

@@ -3,6 +3,7 @@
 use mathlib.Core.Bool.{true}
 use mathlib.Core.List.{List}
 use mathlib.Core.Path.{_≡_, refl, ap, _∙_}
+use mathlib.Core.Logic.{_≢_}
 use Prim.Native.Nat.{ℕ, zero, suc, _+_, _-_, _*_, _≤_, _<_}
 use native.Mathlib.Omega.{arith}
 use lib.ListN.{length, getD}
@@ -21,7 +22,9 @@ use Rattle.smoothing.specs.Row.{leastPeak, lazyBefore, lazy}
 use Rattle.smoothing.specs.Plan.{Problem, lower, upper, linkPeak, lazyPlan, plan}
 use Rattle.curves.specs.Curves.{lowerCurve, upperCurve, sumsIn, lastIn}
 use Rattle.curves.proofs.SumsLaws.{film-of}
+use Rattle.curves.specs.Rows.{leafLower, leafUpper}
 use Rattle.curves.proofs.CurveEq.{lower-is, upper-is, lower-top}
+use Rattle.curves.proofs.AllRowsLaws.{leaf-lower-is, leaf-upper-is}
 use Rattle.rows.specs.Search.{Searchable}
 use Rattle.rows.specs.Closing.{slotIn}
 use Rattle.planner.specs.Work.{Ready, Fed, Starves, problemIn, lazyRowOf, lazyRowsOf, planRowsOf}
@@ -116,20 +119,29 @@ module _ (job : Job) (sums lowers uppers : List ℕ) (ready : Ready job sums low
       rw (length-tab (lowerCurve (treeIn job) (sumsIn sums) v) (length lowers), e, back)
       (tab-cong _ _ (length lowers) (λ k h. lazy-same (length lowers - 1) (linkPeak (problemIn job sums (length lowers)) v) (familyIn lowerRow) _ lower-here k (omega arith)))
 
--- ---- what two rows of one leaf say of it
+-- ---- what two rows of its parent say of a leaf
 
-module _ (t : Tree) (T : ℕ → ℕ) (top i w : ℕ) (l u : List ℕ) (is-lower : l ≡ tab (lowerCurve t T i) w) (is-upper : u ≡ tab (upperCurve t T top i) w) where
-  lower-cell : (k : ℕ) → k < w → getD l k 0 ≡ lowerCurve t T i k
-  lower-cell k h = ap (λ (x : List ℕ). getD x k 0) is-lower ∙ getD-tab (lowerCurve t T i) w k h
+module _ (t : Tree) (within : TreeWithin t) (T : ℕ → ℕ) (top i w : ℕ) (is-leaf : leaf t i ≡ true) (is-link : Link (t .n) i) (inner : t .parent i ≢ 0)
+    (l u : List ℕ) (is-lower : l ≡ tab (lowerCurve t T (t .parent i)) w) (is-upper : u ≡ tab (upperCurve t T top (t .parent i)) w) where
+  abbrev lowerAt : ℕ → ℕ
+  lowerAt k = leafLower (T (k - t .delay i)) (getD l k 0) (t .memory (t .parent i))
 
-  upper-cell : (k : ℕ) → k < w → getD u k 0 ≡ upperCurve t T top i k
-  upper-cell k h = ap (λ (x : List ℕ). getD x k 0) is-upper ∙ getD-tab (upperCurve t T top i) w k h
+  abbrev upperAt : ℕ → ℕ
+  upperAt k = leafUpper (T (k - t .delay i)) (getD u k 0) (t .memory i)
 
-  pub fed-by-rows : ((k : ℕ) → k < w → getD l k 0 ≤ getD u k 0) → Fed t T top w i
+  lower-cell : (k : ℕ) → k < w → lowerAt k ≡ lowerCurve t T i k
+  lower-cell k h =
+      rw (ap (λ (x : List ℕ). getD x k 0) is-lower ∙ getD-tab (lowerCurve t T (t .parent i)) w k h) (leaf-lower-is t within T i k is-leaf is-link inner)
+
+  upper-cell : (k : ℕ) → k < w → upperAt k ≡ upperCurve t T top i k
+  upper-cell k h =
+      rw (ap (λ (x : List ℕ). getD x k 0) is-upper ∙ getD-tab (upperCurve t T top (t .parent i)) w k h) (leaf-upper-is t within T i k is-leaf is-link inner top)
+
+  pub fed-by-rows : ((k : ℕ) → k < w → lowerAt k ≤ upperAt k) → Fed t T top w i
   fed-by-rows fine k h = omega (arith, fine k h, lower-cell k h, upper-cell k h)
 
-  pub starved-by-rows : leaf t i ≡ true → (k : ℕ) → k < w → getD u k 0 < getD l k 0 → Starves t T top w
-  starved-by-rows is-leaf k h crosses = (i, is-leaf, k, h, omega (arith, lower-cell k h, upper-cell k h))
+  pub starved-by-rows : (k : ℕ) → k < w → upperAt k < lowerAt k → Starves t T top w
+  starved-by-rows k h crosses = (i, is-leaf, k, h, omega (arith, lower-cell k h, upper-cell k h))
 
 -- ---- rows closed at every slot
 

@@ -27,7 +27,8 @@ pub enum Answer {
     Planned(u64, u64),
 }
 
-// The search for a starving leaf, which stops at the first leaf and slot found. The two rows are room to work in.
+// The search for a starving leaf, which stops at the first leaf and slot found. A leaf below the root never starves; any other leaf's
+// curves come from its parent's, for which the two rows are room.
 fn starves(job: Job, sums: &[u64], lowers: &mut [u64], uppers: &mut [u64]) -> bool
     requires { ⌜ Ready job (now sums) (now lowers) (now uppers) ⌝ }
     ensures { λ r. ⌜ (r ≡ true → Starves (treeIn job) (sumsIn (now (sums .entry))) (lastIn (now (sums .entry))) (length (now (lowers .entry)))) ⌝ }
@@ -35,19 +36,26 @@ fn starves(job: Job, sums: &[u64], lowers: &mut [u64], uppers: &mut [u64]) -> bo
 {
     let mut rest = job.leaves();
     let mut found = false;
+    let mut near = 0;
     'search: while rest != 0 {
         let i = base::lowest(rest);
-        curves::lower_row(job, sums, i, lowers);
-        curves::upper_row(job, sums, i, uppers);
-        let mut k = 0;
-        while k < lowers.len() {
-            if lowers[k] > uppers[k] {
-                found = true;
-                break 'search;
-            }
-            k += 1;
-        }
         rest = base::without_lowest(rest);
+        let u = job.parent[i];
+        if u != 0 {
+            curves::both_rows(job, sums, near, u, lowers, uppers);
+            near = u;
+            let mut k = 0;
+            while k < lowers.len() {
+                let plays = curves::played(sums, job.delay[i], k);
+                let lower = curves::leaf_lower(plays, lowers[k], job.memory[u]);
+                let upper = curves::leaf_upper(plays, uppers[k], job.memory[i]);
+                if lower > upper {
+                    found = true;
+                    break 'search;
+                }
+                k += 1;
+            }
+        }
     }
     found
 }

@@ -1,95 +1,201 @@
 use mathlib.Core.Path.{_≡_, refl, ap, sym, _∙_}
 use mathlib.Core.Bool.{true, false}
+use mathlib.Core.List.{List}
+use mathlib.Core.Logic.{_≢_}
 use Prim.Native.Nat.{ℕ, _-_, _≤_, _<_}
-use native.Mathlib.Omega.{arith}
 use lib.ListN.{length, getD}
 use borrow.Author.Count.{below-more}
-use borrow.Author.Needs.{needs}
-use Rattle.base.proofs.TableLaws.{length-tab}
-use Rattle.base.proofs.BoolLaws.{not-both}
 use Rattle.base.specs.Table.{tab}
+use Rattle.base.proofs.BoolLaws.{not-both}
+use Rattle.base.proofs.TableLaws.{length-tab}
 use Rattle.base.proofs.WalkLaws.{Seen, seen-start, seen-in, seen-next, seen-all}
-use Rattle.planner.proofs.WorkLaws.{fed-by-rows, starved-by-rows}
-use Rattle.curves.specs.Curves.{lowerCurve, upperCurve, sumsIn, lastIn}
-use Rattle.smoothing.specs.Tree.{Link}
-use Rattle.job.proofs.SlotLaws.{leaf-link}
-use Rattle.job.proofs.TreeLaws.{link-in}
 use Rattle.job.specs.Tree.{leaf}
-use Rattle.planner.specs.Work.{Fed}
 use Rattle.job.specs.Read.{treeIn}
+use Rattle.job.specs.declared.Job.{Job}
+use Rattle.job.proofs.SlotLaws.{leaf-link}
+use Rattle.job.proofs.TreeLaws.{link-in, link-is}
+use Rattle.smoothing.specs.Tree.{Link}
+use Rattle.curves.specs.Curves.{lowerCurve, upperCurve, sumsIn, lastIn}
+use Rattle.curves.specs.Rows.{KeptBoth, leafLower, leafUpper}
+use Rattle.curves.proofs.SumsLaws.{film-of, sum-fits}
+use Rattle.curves.proofs.AllRowsLaws.{root-leaf-fed}
+use Rattle.planner.specs.Work.{Fed}
+use Rattle.planner.proofs.WorkLaws.{fed-by-rows, starved-by-rows}
+use borrow.Author.Needs.{needs}
+use native.Mathlib.Omega.{arith}
 use Rattle.planner.proofs.starves.Statement.{statement}
 use Rattle.planner.proofs.starves.Tie as tie
+use Rattle.planner.proofs.starves.Reads as reads
+use Rattle.planner.proofs.starves.Lts as lts
+use Rattle.base.proofs.lowest.Reads as lowest-reads
+use Rattle.base.proofs.without_lowest.Reads as without-lowest-reads
+use Rattle.curves.proofs.both_rows.Reads as both-rows-reads
+use Rattle.curves.proofs.leaf_lower.Reads as leaf-lower-reads
+use Rattle.curves.proofs.leaf_upper.Reads as leaf-upper-reads
+use Rattle.curves.proofs.played.Reads as played-reads
+use Rattle.job.proofs.Job.leaves.Reads as leaves-reads
+
+-- what the code takes for leaf i's curves at slot x, from the rows of its parent u
+abbrev lowerOf : Job → List ℕ → List ℕ → ℕ → ℕ → ℕ → ℕ
+lowerOf job sums lowers i u x = leafLower (sumsIn sums (x - getD (job .delay) i 0)) (getD lowers x 0) (getD (job .memory) u 0)
+
+abbrev upperOf : Job → List ℕ → List ℕ → ℕ → ℕ → ℕ
+upperOf job sums uppers i x = leafUpper (sumsIn sums (x - getD (job .delay) i 0)) (getD uppers x 0) (getD (job .memory) i 0)
 
 abbrev Inv-loop : tie.InvT-loop
-Inv-loop job sums lowers uppers rest found₀ i k₀ found k = (k ≤ length lowers) × ((found ≡ false) × ((x : ℕ) → x < k → getD lowers x 0 ≤ getD uppers x 0))
+Inv-loop sums lowers uppers job rest found₀ near i u k₀ found k =
+    (k ≤ length lowers)
+    × ((found ≡ false) × ((x : ℕ) → x < k → lowerOf job sums lowers i u x ≤ upperOf job sums uppers i x))
 
 abbrev μ-loop : tie.MeasureT-loop
-μ-loop job sums lowers uppers rest found₀ i k₀ found k = length lowers - k
+μ-loop sums lowers uppers job rest found₀ near i u k₀ found k = length lowers - k
 
 abbrev Inv-search : tie.InvT-search
-Inv-search job sums lowers₀ uppers₀ rest₀ found₀ lowers uppers rest found =
+Inv-search sums lowers₀ uppers₀ job rest₀ found₀ near₀ lowers uppers rest found near =
     (length lowers ≡ length lowers₀)
     × ((length uppers ≡ length uppers₀)
-    × ((found ≡ false) × Seen (Fed (treeIn job) (sumsIn sums) (lastIn sums) (length lowers₀)) rest₀ rest))
+    × ((found ≡ false)
+    × (KeptBoth (treeIn job) (sumsIn sums) (lastIn sums) near lowers uppers × Seen (Fed (treeIn job) (sumsIn sums) (lastIn sums) (length lowers₀)) rest₀ rest)))
 
 abbrev μ-search : tie.MeasureT-search
-μ-search job sums lowers₀ uppers₀ rest₀ found₀ lowers uppers rest found = rest
+μ-search sums lowers₀ uppers₀ job rest₀ found₀ near₀ lowers uppers rest found near = rest
 
 -- the member met is a leaf, and so a link
-leaf-here : (c : tie.After-lowest Inv-loop μ-loop Inv-search μ-search) → leaf (treeIn (c .before .before .before .before .before .before .before .args .job)) (c .lowest .result) ≡ true
+leaf-here : (c : tie.After-lowest Inv-loop μ-loop Inv-search μ-search) → leaf (treeIn (c .before .before .before .before .before .before .before .args .t1)) (c .lowest .result) ≡ true
 leaf-here c =
     let s = c .before .before .search in
     let leaves = c .before .before .before .leaves in
-    rw (c .lowest .ensures) (sym (leaves .ensures _) ∙ seen-in _ (leaves .result) (s .rest) (s .inv .1 .1 .1) (omega arith))
+    rw (c .lowest .ensures) (sym (leaves .ensures _) ∙ seen-in _ (leaves .result) (s .rest) (s .inv .1 .1 .1 .1) (omega arith))
 
-link-here : (c : tie.After-lowest Inv-loop μ-loop Inv-search μ-search) → Link (c .before .before .before .before .before .before .before .args .job .nodes) (c .lowest .result)
-link-here c = link-in _ _ (leaf-link (treeIn (c .before .before .before .before .before .before .before .args .job)) (c .before .before .before .before .before .before .before .pre .tree) (c .lowest .result) (leaf-here c))
+link-here : (c : tie.After-lowest Inv-loop μ-loop Inv-search μ-search) → Link (c .before .before .before .before .before .before .before .args .t1 .nodes) (c .lowest .result)
+link-here c = link-in _ _ (leaf-link (treeIn (c .before .before .before .before .before .before .before .args .t1)) (c .before .before .before .before .before .before .before .pre .tree) (c .lowest .result) (leaf-here c))
 
--- the two rows hold the leaf's curves
-lower-is : (c : tie.After-slice-known4 Inv-loop μ-loop Inv-search μ-search) → let st = c .before .before .before .before .before .before .before .before .before .before .before .before .before .before .before in
-    c .before .before .before .before .before .before .lower-row .last .1 .1 .1 .0 ≡ tab (lowerCurve (treeIn (st .args .job)) (sumsIn (st .args .sums .now)) (c .before .before .before .before .before .before .before .before .lowest .result)) (length (st .args .lowers .now))
-lower-is c = c .before .before .before .before .before .before .lower-row .ensures ∙ rw (c .before .before .before .before .before .before .before .before .before .before .search .inv .0) refl
+-- its parent has a lower number
+parent-here : (c : tie.After-lowest Inv-loop μ-loop Inv-search μ-search) → getD (c .before .before .before .before .before .before .before .args .t1 .parent) (c .lowest .result) 0 < c .lowest .result
+parent-here c = let st = c .before .before .before .before .before .before .before in st .pre .tree .parents (c .lowest .result) (link-is (st .args .t1 .nodes) (c .lowest .result) (link-here c .0) (link-here c .1))
 
-upper-is : (c : tie.After-slice-known4 Inv-loop μ-loop Inv-search μ-search) → let st = c .before .before .before .before .before .before .before .before .before .before .before .before .before .before .before in
-    c .before .before .upper-row .last .1 .1 .1 .0 ≡ tab (upperCurve (treeIn (st .args .job)) (sumsIn (st .args .sums .now)) (lastIn (st .args .sums .now)) (c .before .before .before .before .before .before .before .before .lowest .result)) (length (st .args .lowers .now))
-upper-is c = c .before .before .upper-row .ensures ∙ rw (c .before .before .before .before .before .before .before .before .before .before .search .inv .1 .0, c .before .before .before .before .before .before .before .before .before .before .before .before .before .before .before .pre .same) refl
+-- every node's number is small
+small : (c : tie.After-lowest Inv-loop μ-loop Inv-search μ-search) → c .lowest .result < 64
+small c = omega (arith, link-here c, c .before .before .before .before .before .before .before .pre .tree .nodes-to)
+
+-- the two rows have the curves of the leaf's parent
+lower-is : (c : tie.After-both-rows Inv-loop μ-loop Inv-search μ-search) → let st = c .before .before .before .before .before .before .before .before .before .before .before .before .before in
+    c .both-rows .last .1 .1 .1 .1 .0 ≡ tab (lowerCurve (treeIn (st .args .t1)) (sumsIn (st .args .sums .now)) (getD (st .args .t1 .parent) (c .before .before .before .before .before .before .lowest .result) 0)) (length (st .args .lowers .now))
+lower-is c = c .both-rows .ensures .0 ∙ rw (c .before .before .before .before .before .before .before .before .search .inv .0) refl
+
+upper-is : (c : tie.After-both-rows Inv-loop μ-loop Inv-search μ-search) → let st = c .before .before .before .before .before .before .before .before .before .before .before .before .before in
+    c .both-rows .last .1 .1 .1 .1 .1 .0 ≡ tab (upperCurve (treeIn (st .args .t1)) (sumsIn (st .args .sums .now)) (lastIn (st .args .sums .now)) (getD (st .args .t1 .parent) (c .before .before .before .before .before .before .lowest .result) 0)) (length (st .args .lowers .now))
+upper-is c = c .both-rows .ensures .1 ∙ rw (c .before .before .before .before .before .before .before .before .search .inv .1 .0, c .before .before .before .before .before .before .before .before .before .before .before .before .before .pre .same) refl
+
+-- and are as long as lent
+lower-long : (c : tie.After-both-rows Inv-loop μ-loop Inv-search μ-search) → length (c .both-rows .last .1 .1 .1 .1 .0) ≡ length (c .before .before .before .before .before .before .before .before .before .before .before .before .before .args .lowers .now)
+lower-long c = ap length (lower-is c) ∙ length-tab _ _
+
+upper-long : (c : tie.After-both-rows Inv-loop μ-loop Inv-search μ-search) → length (c .both-rows .last .1 .1 .1 .1 .1 .0) ≡ length (c .before .before .before .before .before .before .before .before .before .before .before .before .before .args .lowers .now)
+upper-long c = ap length (upper-is c) ∙ length-tab _ _
 
 leaves-requires : tie.Need-leaves-requires Inv-loop μ-loop Inv-search μ-search
 leaves-requires c κs = (c .before .before .before .pre .tree .nodes-from, c .before .before .before .pre .tree .nodes-to)
 
 search-holds : tie.Need-search-holds Inv-loop μ-loop Inv-search μ-search
-search-holds c = (refl, (refl, (refl, seen-start _ _ (omega arith))))
+search-holds c = (refl, (refl, (refl, (((omega (arith, c .before .before .before .before .pre .tree .nodes-from), λ ne. absurd (ne refl)), λ ne. absurd (ne refl)), seen-start _ _ (omega arith)))))
 
 lowest-requires : tie.Need-lowest-requires Inv-loop μ-loop Inv-search μ-search
 lowest-requires c κs = search needs
 
-lower-row-requires : tie.Need-lower-row-requires Inv-loop μ-loop Inv-search μ-search
-lower-row-requires c κs =
-    let st = c .before .before .before .before .before .before .before .before in
-    (st .pre .tree, (link-here (c .before), st .pre .film))
+without-lowest-requires : tie.Need-without-lowest-requires Inv-loop μ-loop Inv-search μ-search
+without-lowest-requires c κs = search needs
 
-upper-row-requires : tie.Need-upper-row-requires Inv-loop μ-loop Inv-search μ-search
-upper-row-requires c κs =
+mul-u : tie.Need-mul-u Inv-loop μ-loop Inv-search μ-search
+mul-u c = omega (arith, small (c .before))
+
+element-copy-out-u : tie.Need-element-copy-out-u Inv-loop μ-loop Inv-search μ-search
+element-copy-out-u c = small (c .before)
+
+both-rows-requires : tie.Need-both-rows-requires Inv-loop μ-loop Inv-search μ-search
+both-rows-requires c κs =
     let st = c .before .before .before .before .before .before .before .before .before .before .before .before in
-    (st .pre .tree, (link-here (c .before .before .before .before .before), st .pre .film))
+    (st .pre .tree, ((omega arith, omega (arith, parent-here (c .before .before .before .before .before), link-here (c .before .before .before .before .before))), (st .pre .film, c .before .before .before .before .before .before .before .search .inv .1 .1 .1 .0)))
 
 loop-holds : tie.Need-loop-holds Inv-loop μ-loop Inv-search μ-search
-loop-holds c = (omega arith, (c .before .before .before .before .before .before .before .before .before .before .search .inv .1 .1 .0, λ x h. absurd (omega arith)))
+loop-holds c = (omega arith, (c .before .before .before .before .before .before .before .before .before .before .before .before .search .inv .1 .1 .0, λ x h. absurd (omega arith)))
 
-mul-if1 : tie.Need-mul-if1 Inv-loop μ-loop Inv-search μ-search
-mul-if1 c = search needs
+search-less : tie.Need-search-less Inv-loop μ-loop Inv-search μ-search
+search-less c = omega (arith, c .before .before .before .before .before .before .before .before .before .before .before .without-lowest .ensures .1)
 
-slice-read-if1 : tie.Need-slice-read-if1 Inv-loop μ-loop Inv-search μ-search
-slice-read-if1 c = c .before .loop-test .taken
+search-again : tie.Need-search-again Inv-loop μ-loop Inv-search μ-search
+search-again c =
+    let st = c .before .before .before .before .before .before .before .before .before .before .before .before .before .before .before .before .before .before .before in
+    let s = c .before .before .before .before .before .before .before .before .before .before .before .before .before .before .search in
+    let l = c .before .loop in
+    let r = c .before .before .before .before .before .before in
+    let job = st .args .t1 in
+    let t = treeIn job in
+    let sums = st .args .sums .now in
+    let w = length (st .args .lowers .now) in
+    let i = c .before .before .before .before .before .before .before .before .before .before .before .before .lowest .result in
+    let fed : Fed t (sumsIn sums) (lastIn sums) w i =
+    fed-by-rows t (st .pre .tree) (sumsIn sums) (lastIn sums) i w (leaf-here (c .before .before .before .before .before .before .before .before .before .before .before .before)) (link-here (c .before .before .before .before .before .before .before .before .before .before .before .before)) (omega (arith, c .before .before .before .before .before .before .before .before .before .if1 .taken)) _ _ (lower-is r) (upper-is r)
+    (λ k h. l .inv .1 .1 k (omega (arith, lower-long r, c .loop-test .left))) in (
+      lower-long r,
+      (
+        upper-long r ∙ sym (st .pre .same),
+        (
+          l .inv .1 .0,
+          (
+            ((omega (arith, parent-here (c .before .before .before .before .before .before .before .before .before .before .before .before), link-here (c .before .before .before .before .before .before .before .before .before .before .before .before)), λ ne. rw (lower-long r) (lower-is r)), λ ne. rw (upper-long r) (upper-is r)),
+            seen-next (Fed t (sumsIn sums) (lastIn sums) w) (c .before .before .before .before .before .before .before .before .before .before .before .before .before .before .before .leaves .result) (s .rest) (c .before .before .before .before .before .before .before .before .before .before .before .without-lowest .result) (s .inv .1 .1 .1 .1)
+                (omega arith) (c .before .before .before .before .before .before .before .before .before .before .before .without-lowest .ensures .1) (c .before .before .before .before .before .before .before .before .before .before .before .without-lowest .ensures .0) (rw (c .before .before .before .before .before .before .before .before .before .before .before .before .lowest .ensures) at fed),
+          ),
+        ),
+      ),
+    )
 
-mul-if1-2 : tie.Need-mul-if1-2 Inv-loop μ-loop Inv-search μ-search
-mul-if1-2 c = search needs
+mul-played : tie.Need-mul-played Inv-loop μ-loop Inv-search μ-search
+mul-played c = omega (arith, small (c .before .before .before .before .before .before .before .before .before .before .before .before))
 
-slice-read-if1-2 : tie.Need-slice-read-if1-2 Inv-loop μ-loop Inv-search μ-search
-slice-read-if1-2 c =
-    let d = c .before .before .before .before in
-    let l = c .before .before .before .loop in
-    omega (arith, c .before .before .loop-test .taken, ap length (lower-is d), ap length (upper-is d), length-tab (lowerCurve (treeIn (d .before .before .before .before .before .before .before .before .before .before .before .before .before .before .before .args .job)) (sumsIn (d .before .before .before .before .before .before .before .before .before .before .before .before .before .before .before .args .sums .now)) (d .before .before .before .before .before .before .before .before .lowest .result)) (length (d .before .before .before .before .before .before .before .before .before .before .before .before .before .before .before .args .lowers .now)), length-tab (upperCurve (treeIn (d .before .before .before .before .before .before .before .before .before .before .before .before .before .before .before .args .job)) (sumsIn (d .before .before .before .before .before .before .before .before .before .before .before .before .before .before .before .args .sums .now)) (lastIn (d .before .before .before .before .before .before .before .before .before .before .before .before .before .before .before .args .sums .now)) (d .before .before .before .before .before .before .before .before .lowest .result)) (length (d .before .before .before .before .before .before .before .before .before .before .before .before .before .before .before .args .lowers .now)))
+element-copy-out-played : tie.Need-element-copy-out-played Inv-loop μ-loop Inv-search μ-search
+element-copy-out-played c = small (c .before .before .before .before .before .before .before .before .before .before .before .before)
+
+played-requires : tie.Need-played-requires Inv-loop μ-loop Inv-search μ-search
+played-requires c κs = c .before .before .before .before .before .before .before .before .before .before .before .before .before .before .before .before .before .before .before .before .pre .film .some-sum
+
+mul-leaf-lower : tie.Need-mul-leaf-lower Inv-loop μ-loop Inv-search μ-search
+mul-leaf-lower c = search needs
+
+slice-read-leaf-lower : tie.Need-slice-read-leaf-lower Inv-loop μ-loop Inv-search μ-search
+slice-read-leaf-lower c = c .before .before .before .loop-test .taken
+
+mul-leaf-lower-2 : tie.Need-mul-leaf-lower-2 Inv-loop μ-loop Inv-search μ-search
+mul-leaf-lower-2 c = omega (arith, small (c .before .before .before .before .before .before .before .before .before .before .before .before .before .before .before), parent-here (c .before .before .before .before .before .before .before .before .before .before .before .before .before .before .before))
+
+element-copy-out-leaf-lower :
+    tie.Need-element-copy-out-leaf-lower Inv-loop μ-loop Inv-search μ-search
+element-copy-out-leaf-lower c = omega (arith, small (c .before .before .before .before .before .before .before .before .before .before .before .before .before .before .before), parent-here (c .before .before .before .before .before .before .before .before .before .before .before .before .before .before .before))
+
+leaf-lower-requires : tie.Need-leaf-lower-requires Inv-loop μ-loop Inv-search μ-search
+leaf-lower-requires c κs = search needs
+
+mul-leaf-upper : tie.Need-mul-leaf-upper Inv-loop μ-loop Inv-search μ-search
+mul-leaf-upper c = search needs
+
+slice-read-leaf-upper : tie.Need-slice-read-leaf-upper Inv-loop μ-loop Inv-search μ-search
+slice-read-leaf-upper c = omega (arith, c .before .before .before .before .before .before .loop-test .taken, lower-long (c .before .before .before .before .before .before .before .before .before .before .before .before), upper-long (c .before .before .before .before .before .before .before .before .before .before .before .before))
+
+mul-leaf-upper-2 : tie.Need-mul-leaf-upper-2 Inv-loop μ-loop Inv-search μ-search
+mul-leaf-upper-2 c = omega (arith, small (c .before .before .before .before .before .before .before .before .before .before .before .before .before .before .before .before .before .before))
+
+element-copy-out-leaf-upper :
+    tie.Need-element-copy-out-leaf-upper Inv-loop μ-loop Inv-search μ-search
+element-copy-out-leaf-upper c = small (c .before .before .before .before .before .before .before .before .before .before .before .before .before .before .before .before .before .before)
+
+leaf-upper-requires : tie.Need-leaf-upper-requires Inv-loop μ-loop Inv-search μ-search
+leaf-upper-requires c κs =
+    let st = c .before .before .before .before .before .before .before .before .before .before .before .before .before .before .before .before .before .before .before .before .before .before .before .before .before .before in
+    let d = c .before .before .before .before .before .before .before .before .before .before .before .before .before .before .before .before .before .before .before in (
+      rw (c .before .before .before .before .before .played .ensures) (sum-fits (st .args .sums .now) (st .pre .film) _),
+      st .pre .tree .memories (d .lowest .result) (link-is (st .args .t1 .nodes) (d .lowest .result) (link-here d .0) (link-here d .1)),
+    )
 
 add-k : tie.Need-add-k Inv-loop μ-loop Inv-search μ-search
 add-k c = search needs
@@ -99,35 +205,33 @@ loop-less c = search needs
 
 loop-again : tie.Need-loop-again Inv-loop μ-loop Inv-search μ-search
 loop-again c =
-    let l = c .before .before .before .before .loop in
-    (search needs, (l .inv .1 .0, below-more _ _ (l .inv .1 .1) (c .if1 .left)))
+    let l = c .before .before .before .before .before .before .before .before .before .before .loop in
+    let lower = rw (c .before .before .before .before .before .before .before .played .ensures) at (c .before .before .before .before .leaf-lower .ensures) in
+    let upper = rw (c .before .before .before .before .before .before .before .played .ensures) at (c .before .leaf-upper .ensures) in
+    (search needs, (l .inv .1 .0, below-more _ _ (l .inv .1 .1) (omega (arith, c .if2 .left, lower, upper))))
 
-without-lowest-requires : tie.Need-without-lowest-requires Inv-loop μ-loop Inv-search μ-search
-without-lowest-requires c κs = search needs
+search-less-2 : tie.Need-search-less-2 Inv-loop μ-loop Inv-search μ-search
+search-less-2 c = omega (arith, c .before .before .without-lowest .ensures .1)
 
-search-less : tie.Need-search-less Inv-loop μ-loop Inv-search μ-search
-search-less c = omega (arith, c .without-lowest .ensures .1)
-
-search-again : tie.Need-search-again Inv-loop μ-loop Inv-search μ-search
-search-again c =
-    let d = c .before .before .before in
-    let l = c .before .before .loop in
-    let s = d .before .before .before .before .before .before .before .before .before .before .search in
-    let st = d .before .before .before .before .before .before .before .before .before .before .before .before .before .before .before in
-    let w = length (st .args .lowers .now) in
-    let t = treeIn (st .args .job) in
+search-again-2 : tie.Need-search-again-2 Inv-loop μ-loop Inv-search μ-search
+search-again-2 c =
+    let st = c .before .before .before .before .before .before .before .before .before .before in
+    let s = c .before .before .before .before .before .search in
+    let t = treeIn (st .args .t1) in
     let sums = st .args .sums .now in
-    let i = d .before .before .before .before .before .before .before .before .lowest .result in
-    let long : length (d .before .before .before .before .before .before .lower-row .last .1 .1 .1 .0) ≡ w = ap length (lower-is d) ∙ length-tab (lowerCurve t (sumsIn sums) i) w in
-    let fed : Fed t (sumsIn sums) (lastIn sums) w i =
-    fed-by-rows t (sumsIn sums) (lastIn sums) i w _ _ (lower-is d) (upper-is d) (λ k h. l .inv .1 .1 k (omega (arith, c .before .loop-test .left))) in (
-      long,
+    let w = length (st .args .lowers .now) in
+    let fed : Fed t (sumsIn sums) (lastIn sums) w (c .before .before .before .lowest .result) =
+    λ k h. root-leaf-fed t (st .pre .tree) (sumsIn sums) (lastIn sums) (film-of sums (st .pre .film)) (c .before .before .before .lowest .result) (leaf-here (c .before .before .before)) (link-here (c .before .before .before)) (omega (arith, c .if1 .left)) k in (
+      s .inv .0,
       (
-        ap length (upper-is d) ∙ length-tab (upperCurve t (sumsIn sums) (lastIn sums) i) w ∙ sym (st .pre .same),
+        s .inv .1 .0,
         (
-          l .inv .1 .0,
-          seen-next (Fed t (sumsIn sums) (lastIn sums) w) (d .before .before .before .before .before .before .before .before .before .before .before .leaves .result) (s .rest) (c .without-lowest .result) (s .inv .1 .1 .1)
-              (omega arith) (c .without-lowest .ensures .1) (c .without-lowest .ensures .0) (rw (d .before .before .before .before .before .before .before .before .lowest .ensures) at fed),
+          s .inv .1 .1 .0,
+          (
+            s .inv .1 .1 .1 .0,
+            seen-next (Fed t (sumsIn sums) (lastIn sums) w) (c .before .before .before .before .before .before .leaves .result) (s .rest) (c .before .before .without-lowest .result) (s .inv .1 .1 .1 .1)
+                (omega arith) (c .before .before .without-lowest .ensures .1) (c .before .before .without-lowest .ensures .0) (rw (c .before .before .before .lowest .ensures) at fed),
+          ),
         ),
       ),
     )
@@ -143,31 +247,27 @@ returns c =
     let s = c .before .search in
     let st = c .before .before .before .before .before .before in (
       λ q. absurd (not-both q (s .inv .1 .1 .0)),
-      λ q i e. seen-all (Fed (treeIn (st .args .job)) (sumsIn (st .args .sums .now)) (lastIn (st .args .sums .now)) (length (st .args .lowers .now)))
-          (c .before .before .leaves .result) (rw (c .search-test .left) at (s .inv .1 .1 .1)) i (c .before .before .leaves .ensures i ∙ e),
+      λ q i e. seen-all (Fed (treeIn (st .args .t1)) (sumsIn (st .args .sums .now)) (lastIn (st .args .sums .now)) (length (st .args .lowers .now)))
+          (c .before .before .leaves .result) (rw (c .search-test .left) at (s .inv .1 .1 .1 .1)) i (c .before .before .leaves .ensures i ∙ e),
     )
 
 same-length-3 : tie.Need-same-length-3 Inv-loop μ-loop Inv-search μ-search
-same-length-3 c =
-    let d = c .before .before .before .before .before in
-    ap length (lower-is d) ∙ length-tab _ _
+same-length-3 c = lower-long (c .before .before .before .before .before .before .before .before .before .before .before .before .before .before .before)
 
 same-length-4 : tie.Need-same-length-4 Inv-loop μ-loop Inv-search μ-search
-same-length-4 c =
-    let d = c .before .before .before .before .before in
-    ap length (upper-is d) ∙ length-tab _ _ ∙ sym (d .before .before .before .before .before .before .before .before .before .before .before .before .before .before .before .pre .same)
+same-length-4 c = upper-long (c .before .before .before .before .before .before .before .before .before .before .before .before .before .before .before) ∙ sym (c .before .before .before .before .before .before .before .before .before .before .before .before .before .before .before .before .before .before .before .before .before .before .before .before .before .before .before .before .pre .same)
 
 returns-2 : tie.Need-returns-2 Inv-loop μ-loop Inv-search μ-search
 returns-2 c =
-    let d = c .before .before .before .before .before in
-    let st = d .before .before .before .before .before .before .before .before .before .before .before .before .before .before .before in
-    let w = length (st .args .lowers .now) in
-    let t = treeIn (st .args .job) in
+    let st = c .before .before .before .before .before .before .before .before .before .before .before .before .before .before .before .before .before .before .before .before .before .before .before .before .before .before .before .before in
+    let t = treeIn (st .args .t1) in
     let sums = st .args .sums .now in
-    let i = d .before .before .before .before .before .before .before .before .lowest .result in
-    let l = c .before .before .before .before .loop in
-    let long : length (d .before .before .before .before .before .before .lower-row .last .1 .1 .1 .0) ≡ w = ap length (lower-is d) ∙ length-tab (lowerCurve t (sumsIn sums) i) w in (
-      λ q. starved-by-rows t (sumsIn sums) (lastIn sums) i w _ _ (lower-is d) (upper-is d) (leaf-here (d .before .before .before .before .before .before .before .before)) (l .k) (omega (arith, c .before .before .before .loop-test .taken)) (c .if1 .taken),
+    let w = length (st .args .lowers .now) in
+    let r = c .before .before .before .before .before .before .before .before .before .before .before .before .before .before .before in
+    let lower = rw (c .before .before .before .before .before .before .before .played .ensures) at (c .before .before .before .before .leaf-lower .ensures) in
+    let upper = rw (c .before .before .before .before .before .before .before .played .ensures) at (c .before .leaf-upper .ensures) in (
+      λ q. starved-by-rows t (st .pre .tree) (sumsIn sums) (lastIn sums) (c .before .before .before .before .before .before .before .before .before .before .before .before .before .before .before .before .before .before .before .before .before .lowest .result) w (leaf-here (c .before .before .before .before .before .before .before .before .before .before .before .before .before .before .before .before .before .before .before .before .before)) (link-here (c .before .before .before .before .before .before .before .before .before .before .before .before .before .before .before .before .before .before .before .before .before)) (omega (arith, c .before .before .before .before .before .before .before .before .before .before .before .before .before .before .before .before .before .before .if1 .taken)) _ _ (lower-is r) (upper-is r)
+          (c .before .before .before .before .before .before .before .before .before .before .loop .k) (omega (arith, c .before .before .before .before .before .before .before .before .before .loop-test .taken, lower-long r)) (omega (arith, c .if2 .taken, lower, upper)),
       λ q. absurd (not-both refl q),
     )
 
@@ -182,19 +282,31 @@ starves-spec =
     leaves-requires
     search-holds
     lowest-requires
-    lower-row-requires
-    upper-row-requires
+    without-lowest-requires
+    mul-u
+    element-copy-out-u
+    both-rows-requires
     loop-holds
-    mul-if1
-    slice-read-if1
-    mul-if1-2
-    slice-read-if1-2
+    search-less
+    search-again
+    mul-played
+    element-copy-out-played
+    played-requires
+    mul-leaf-lower
+    slice-read-leaf-lower
+    mul-leaf-lower-2
+    element-copy-out-leaf-lower
+    leaf-lower-requires
+    mul-leaf-upper
+    slice-read-leaf-upper
+    mul-leaf-upper-2
+    element-copy-out-leaf-upper
+    leaf-upper-requires
     add-k
     loop-less
     loop-again
-    without-lowest-requires
-    search-less
-    search-again
+    search-less-2
+    search-again-2
     same-length
     same-length-2
     returns

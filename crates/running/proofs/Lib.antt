@@ -1,0 +1,4 @@
+pub mod TestLaws
+pub mod StepLaws
+pub mod RunLaws
+pub mod AnswerLaws

@@ -3,8 +3,12 @@ ghost use mathlib.Core.Path.{_≡_};
 ghost use Rattle.job.specs.Refusal.{refusal};
 ghost use Rattle.planner.specs.Answer.{Answers};
 ghost use Rattle.planner.specs.declared.Answer as planner;
+ghost use Rattle.running.specs.Running.{start, Stepped, numberOf, linkOf};
+ghost use Rattle.running.specs.declared.Outcome as running;
 ghost use Rattle.relay_c.specs.Numbers.{memoryNumbers};
 use planner::Answer;
+use running::Outcome;
+use running::Running;
 
 // The first of refusals 1 to 10 that applies to these bytes, 0 where they are a job.
 #[no_mangle]
@@ -43,4 +47,56 @@ pub extern "C" fn relay_memory_question(
             total,
         },
     }
+}
+
+// What a step gives: the number and the link of its outcome, and the running tree that it hands on.
+#[repr(C)]
+pub struct StepAnswer {
+    pub number: u64,
+    pub link: u64,
+    pub tree: Running,
+}
+
+// The number and the link of an outcome, with a running tree.
+fn step_answer(tree: Running, outcome: Outcome) -> StepAnswer
+    ensures { λ r. ⌜ r ≡ record { number = numberOf outcome; link = linkOf outcome; tree = tree } ⌝ }
+{
+    match outcome {
+        Outcome::Taken => StepAnswer {
+            number: 0,
+            link: 0,
+            tree,
+        },
+        Outcome::Done => StepAnswer {
+            number: 100,
+            link: 0,
+            tree,
+        },
+        Outcome::Refused(number, link) => StepAnswer { number, link, tree },
+    }
+}
+
+// A step of a running tree: an outcome and a next tree that the contract of `step` allows, by its numbers.
+#[no_mangle]
+pub extern "C" fn relay_step(
+    tree: Running,
+    job: &[u8],
+    plan: &[u64],
+    sent: &mut [u64],
+    held: &mut [u64],
+) -> StepAnswer
+    ensures { λ r. ⌜ ((o : running.Outcome) × (Stepped o (now (job .entry)) (now (plan .entry)) tree (r .tree) (now (sent .entry)) (now (sent .exit)) (now (held .entry)) (now (held .exit)) × ((r .number ≡ numberOf o) × (r .link ≡ linkOf o)))) ⌝ }
+{
+    let step = tree.step(job, plan, sent, held);
+    let next = step.state;
+    let outcome = step.outcome;
+    step_answer(next, outcome)
+}
+
+// The running tree of the first step: slot 0, and nothing carried.
+#[no_mangle]
+pub extern "C" fn relay_start() -> Running
+    ensures { λ r. ⌜ r ≡ start ⌝ }
+{
+    Running::start()
 }

@@ -23,6 +23,7 @@ ghost use Rattle.running.specs.Work as work;
 use job::Job;
 
 // A running tree: the slot number, and what each node has been sent by then.
+#[repr(C)]
 pub struct Running {
     pub slot: u64,
     pub carried: [u64; Job::MOST_NODES],

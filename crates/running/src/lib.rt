@@ -302,7 +302,8 @@ impl Running {
         if held.len() != job.nodes - 1 {
             return refused(self, 11);
         }
-        if job.last_slot() as u64 <= self.slot {
+        let last = job.last_slot() as u64;
+        if last <= self.slot {
             return Step {
                 state: self,
                 outcome: Outcome::Done,

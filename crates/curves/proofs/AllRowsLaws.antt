@@ -6,8 +6,8 @@ use mathlib.Core.List.{List, _++_}
 use Prim.Native.Nat.{ℕ, zero, suc, _+_, _-_, _*_, _≤_, _<_, max, min}
 use native.Mathlib.Omega.{arith}
 use native.Mathlib.Decide.{decLt}
-use lib.ListN.{length, getD, set, length-set, List·getD-append, length-append}
-use lib.Seq.{getD-set-same, getD-set-other, getD-append-add}
+use lib.ListN.{length, getD, set, List·getD-append, length-append}
+use lib.Seq.{getD-append-add}
 use Rattle.base.specs.Table.{tab, rowsOf}
 use Rattle.base.proofs.TableLaws.{length-tab, length-rows, getD-tab, getD-rows, tab-cong}
 use Rattle.base.proofs.PartLaws.{rows-of-cells}
@@ -23,7 +23,7 @@ use Rattle.curves.specs.Rows.{leastDelay, raised, lowered, roof, highRow
 use Rattle.curves.proofs.LowerLaws.{parent-lower, D-leaf, lower-root, lower-step}
 use Rattle.curves.proofs.UpperLaws.{high-under, room-leaf, up-root, up-step}
 use Rattle.curves.proofs.CurveEq.{upper-is, D-starts, D-top, D-delay}
-use Rattle.curves.proofs.RowLaws.{row-is}
+use Rattle.curves.proofs.RowLaws.{zero-slot}
 
 -- ---- one row of what a link's own rules allow
 
@@ -35,14 +35,6 @@ module _ (t : Tree) (w : TreeWithin t) (T : ℕ → ℕ) (top i n : ℕ) where
   pub roof-inner : leaf t i ≡ false → tab (λ k. top) n ≡ tab (roof t T top i) n
   unfolding roof
   roof-inner e = tab-cong _ _ n (λ k h. rw e refl)
-
--- a row whose slot 0 becomes 0
-pub zero-slot : (f g : ℕ → ℕ) (n : ℕ) → g 0 ≡ 0 → ((k : ℕ) → f (suc k) ≡ g (suc k)) → set (tab f n) 0 0 ≡ tab g n
-zero-slot f g n z same = row-is g (set (tab f n) 0 0) n (length-set (tab f n) 0 0 ∙ length-tab f n) slot
-  where
-    slot : (k : ℕ) → k < n → getD (set (tab f n) 0 0) k 0 ≡ g k
-    slot zero h = getD-set-same (tab f n) 0 0 0 (rw length-tab h) ∙ sym z
-    slot (suc k) h = getD-set-other (tab f n) 0 (suc k) 0 0 (omega arith) ∙ getD-tab f n (suc k) h ∙ same k
 
 pub high-slots : (t : Tree) (T : ℕ → ℕ) (top i n : ℕ) → set (tab (roof t T top i) n) 0 0 ≡ tab (high t T top i) n
 unfolding roof high

@@ -2,14 +2,13 @@
 use mathlib.Core.Bool.{true, _&&_}
 use mathlib.Core.Path.{_≡_, refl, sym, _∙_}
 use mathlib.Core.List.{List, [], _∷_}
-use Prim.Native.Nat.{ℕ, zero, suc, _+_, _≤_, _<_}
+use Prim.Native.Nat.{ℕ, _+_, _≤_, _<_}
 use native.Mathlib.Omega.{arith}
-use lib.ListN.{length, getD, set, length-set}
-use lib.Seq.{getD-set-same, getD-set-other}
+use lib.ListN.{length, getD, set}
 use Rattle.base.specs.Set.{has}
 use Rattle.base.specs.Table.{tab}
 use Rattle.base.proofs.BoolLaws.{and-left, and-right}
-use Rattle.base.proofs.TableLaws.{length-tab, getD-tab, tab-cong}
+use Rattle.base.proofs.TableLaws.{tab-cong}
 use Rattle.job.specs.Limits.{longestDelay}
 use Rattle.job.specs.Tree.{Tree, TreeWithin, leaf}
 use Rattle.job.proofs.TreeLaws.{leaf-in, link-is}
@@ -20,7 +19,7 @@ use Rattle.curves.proofs.LowerLaws.{D-leaf}
 use Rattle.curves.proofs.UpperLaws.{room-leaf}
 use Rattle.curves.proofs.PathLaws.{at-link, reach, leaves-settle}
 use Rattle.curves.proofs.ChoiceLaws.{by-top, by-each, by-over}
-use Rattle.curves.proofs.RowLaws.{row-is}
+use Rattle.curves.proofs.RowLaws.{zero-slot}
 
 -- ---- the leaves at or below the highest node of a path
 
@@ -62,9 +61,4 @@ zero-none (x ∷ l) h = absurd (omega arith)
 -- with slot 0 it is the upper curve
 pub upper-slots : (t : Tree) (T : ℕ → ℕ) (top i n : ℕ) → set (tab (allowed t T top i) n) 0 0 ≡ tab (upperCurve t T top i) n
 unfolding allowed upperCurve
-upper-slots t T top i n =
-    row-is (upperCurve t T top i) (set (tab (allowed t T top i) n) 0 0) n (length-set (tab (allowed t T top i) n) 0 0 ∙ length-tab _ n) slot
-  where
-    slot : (k : ℕ) → k < n → getD (set (tab (allowed t T top i) n) 0 0) k 0 ≡ upperCurve t T top i k
-    slot zero h = getD-set-same (tab (allowed t T top i) n) 0 0 0 (rw length-tab h)
-    slot (suc k) h = getD-set-other (tab (allowed t T top i) n) 0 (suc k) 0 0 (omega arith) ∙ getD-tab (allowed t T top i) n (suc k) h
+upper-slots t T top i n = zero-slot (allowed t T top i) (upperCurve t T top i) n refl (λ k. refl)

@@ -73,13 +73,12 @@ tab-both op f g w p q d e =
 pub rows-apart : (u v n w : ℕ) → 0 < u → u < v → v < n → ((u - 1) * w + w ≤ (v - 1) * w) × ((v - 1) * w + w ≤ (n - 1) * w)
 rows-apart u v n w p h i = (row-end (u - 1) (v - 1) w (omega arith), row-end (v - 1) (n - 1) w (omega arith))
 
-pub up-turn : (parent : ℕ → ℕ) (w : ℕ) (l : List ℕ) (i a b : ℕ) → 0 < i → 0 < parent i → a ≡ (parent i - 1) * w → b ≡ (i - 1) * w
+pub up-turn : (parent : ℕ → ℕ) (op : ℕ → ℕ → ℕ → ℕ) (w : ℕ) (l : List ℕ) (i a b : ℕ) → 0 < i → 0 < parent i → a ≡ (parent i - 1) * w → b ≡ (i - 1) * w
     → a + w ≤ length l → (k : ℕ) → k < w
-    → passUp parent (λ v x y. max x y) i (slotIn w l k)
-    ≡ passUp parent (λ v x y. max x y) (i - 1) (slotIn w (withPart (λ j. max (getD l (a + j) 0) (getD l (b + j) 0)) a w l) k)
-up-turn parent w l i a b p inner start other h k q =
-    passUp-turn-rows w l parent (λ v x y. max x y) i a (a + w) k p (omega arith) start refl h q
-    ∙ ap (λ (r : List ℕ). passUp parent (λ v x y. max x y) (i - 1) (slotIn w (take a l ++ (r ++ drop (a + w) l)) k))
+    → passUp parent op i (slotIn w l k) ≡ passUp parent op (i - 1) (slotIn w (withPart (λ j. op i (getD l (a + j) 0) (getD l (b + j) 0)) a w l) k)
+up-turn parent op w l i a b p inner start other h k q =
+    passUp-turn-rows w l parent op i a (a + w) k p (omega arith) start refl h q
+    ∙ ap (λ (r : List ℕ). passUp parent op (i - 1) (slotIn w (take a l ++ (r ++ drop (a + w) l)) k))
     (tab-cong _ _ w (λ j m. rw (row-at w l (parent i) a j inner start, row-at w l i b j p other)))
 
 passDown-suc : (parent : ℕ → ℕ) (op : ℕ → ℕ → ℕ → ℕ) (i : ℕ) (f g : ℕ → ℕ) → g ≡ passDown parent op i f

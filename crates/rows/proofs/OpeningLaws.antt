@@ -12,7 +12,7 @@ use Rattle.base.proofs.TableLaws.{length-tab, getD-tab, tab-cong}
 use Rattle.base.proofs.PartLaws.{part-before, part-inside, part-after}
 use Rattle.smoothing.specs.Tree.{Tree, passUp, passDown, openUp, «open»}
 use Rattle.smoothing.specs.Lists.{rowsIn}
-use Rattle.smoothing.proofs.LoopLaws.{passUp-turn-rows, passDown-turn-rows}
+use Rattle.smoothing.proofs.LoopLaws.{passDown-turn-rows}
 use Rattle.job.specs.Limits.{greatestTotal}
 use Rattle.rows.specs.Row.{rowIn, InRange}
 use Rattle.rows.specs.Closing.{slotIn, withPart}
@@ -47,17 +47,9 @@ part-range f a w l p h e long below range i q = go (decLt i a) (decLt i (a + w))
         omega (arith, at, inside, rw k at (below (i - a) (omega arith)), range i (omega arith))
     go (no c) (no d) = omega (arith, at, part-after l (tab f w) a w h (length-tab f w) i (omega arith), range i (omega arith))
 
--- ---- one turn of each pass
+-- ---- one turn of the pass down
 
 module _ (T : Tree) (w : ℕ) (l : List ℕ) (i to from : ℕ) (p : 0 < i) (inner : 0 < T .parent i) where
-  pub open-up-turn : to ≡ (T .parent i - 1) * w → from ≡ (i - 1) * w → to + w ≤ length l → (k : ℕ) → k < w
-      → passUp (T .parent) (openUp T) i (slotIn w l k)
-      ≡ passUp (T .parent) (openUp T) (i - 1) (slotIn w (withPart (λ j. min (getD l (to + j) 0) (getD l (from + j) 0 + T .b (T .parent i))) to w l) k)
-  open-up-turn start other h k q =
-      passUp-turn-rows w l (T .parent) (openUp T) i to (to + w) k p (omega arith) start refl h q
-      ∙ ap (λ (r : List ℕ). passUp (T .parent) (openUp T) (i - 1) (slotIn w (take to l ++ (r ++ drop (to + w) l)) k))
-      (tab-cong _ _ w (λ j m. rw (row-at w l (T .parent i) to j inner start, row-at w l i from j p other)))
-
   pub open-down-turn : to ≡ (i - 1) * w → from ≡ (T .parent i - 1) * w → to + w ≤ length l → (k : ℕ) → k < w → (f : ℕ → ℕ)
       → slotIn w l k ≡ passDown (T .parent) (λ v x y. min x y) (i - 1) f
       → slotIn w (withPart (λ j. min (getD l (to + j) 0) (getD l (from + j) 0 + 0)) to w l) k ≡ passDown (T .parent) (λ v x y. min x y) i f

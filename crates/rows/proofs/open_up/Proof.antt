@@ -7,8 +7,7 @@ use Rattle.smoothing.specs.Tree.{passUp, openUp}
 use Rattle.smoothing.proofs.LoopLaws.{passUp-skip, passUp-done}
 use Rattle.rows.specs.Row.{InRange}
 use Rattle.rows.specs.Closing.{treeFrom, slotIn}
-use Rattle.rows.proofs.ClosingLaws.{rows-apart}
-use Rattle.rows.proofs.OpeningLaws.{open-up-turn}
+use Rattle.rows.proofs.ClosingLaws.{rows-apart, up-turn}
 use borrow.Author.Needs.{needs}
 use native.Mathlib.Omega.{arith}
 use Rattle.rows.proofs.open_up.Statement.{statement}
@@ -114,7 +113,7 @@ loop-again c =
             r .ensures .1,
             λ k h.
                 rw (r .ensures .0)
-                (sym (open-up-turn (treeFrom (a .nodes) (a .parent .now) (a .memory .now)) w (l .plan) v ((u - 1) * w) ((v - 1) * w) (omega arith) (omega arith) refl refl (omega (arith, rows, l .inv .1 .1 .0)) k h)
+                (sym (up-turn (familyIn (a .parent .now)) (openUp (treeFrom (a .nodes) (a .parent .now) (a .memory .now))) w (l .plan) v ((u - 1) * w) ((v - 1) * w) (omega arith) (omega arith) refl refl (omega (arith, rows, l .inv .1 .1 .0)) k h)
                 ∙ l .inv .1 .1 .1 .1 k h),
           ),
         ),

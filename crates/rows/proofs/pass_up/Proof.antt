@@ -83,7 +83,7 @@ loop-again c =
           r .kept .0 ∙ l .inv .1 .1 .0,
           λ k h.
               rw (r .ensures)
-              (sym (up-turn (familyIn (st .args .parent .now)) w (l .plan) v ((u - 1) * w) ((v - 1) * w) (omega arith) (omega arith) refl refl (omega (arith, room, l .inv .1 .1 .0)) k h)
+              (sym (up-turn (familyIn (st .args .parent .now)) (λ v x y. max x y) w (l .plan) v ((u - 1) * w) ((v - 1) * w) (omega arith) (omega arith) refl refl (omega (arith, room, l .inv .1 .1 .0)) k h)
               ∙ l .inv .1 .1 .1 k h),
         ),
       ),

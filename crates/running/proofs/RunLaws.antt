@@ -5,6 +5,7 @@ use mathlib.Core.Path.{_≡_, refl, ap, sym, _∙_}
 use mathlib.Core.Logic.{⊎-elim}
 use Prim.Native.Nat.{ℕ, zero, suc, _-_, _≤_, _<_}
 use native.Mathlib.Omega.{arith}
+use native.Mathlib.Decide.{ℕ-discrete}
 use lib.Dec.{eqb}
 use lib.ListN.{length, getD}
 use borrow.Author.Tests.{eq-eqb, ne-eqb}
@@ -13,6 +14,7 @@ use Rattle.job.specs.Limits.{mostNodes}
 use Rattle.job.specs.Tree.{JobData, TreeWithin, link, leaf, child, T, H, planLength}
 use Rattle.job.specs.Bytes.{jobOf}
 use Rattle.job.specs.Refusal.{refusal}
+use Rattle.job.proofs.RefusalLaws.{accepted-within}
 use Rattle.job.proofs.TreeLaws.{link-in}
 use Rattle.curves.proofs.SumsLaws.{job-film}
 use Rattle.curves.proofs.CurveEq.{D-starts}
@@ -22,8 +24,9 @@ use Rattle.planner.specs.declared.Answer.the-variants.{Planned}
 use Rattle.running.specs.declared.Running.{Running}
 use Rattle.running.specs.declared.Outcome.{Outcome}
 use Rattle.running.specs.declared.Outcome.the-variants.{Taken, Done, Refused}
-use Rattle.running.specs.Running.{carriedIn, column, heldAt, stepRefusal, carriedAfter, Stepped, start, Run}
+use Rattle.running.specs.Running.{carriedIn, column, heldAt, stepRefusal, carriedAfter, Stepped, start, Run, RunsToItsEnd}
 use Rattle.running.proofs.StepLaws.{breach-refutes, held-within}
+use Rattle.running.proofs.AnswerLaws.{step-read}
 
 -- rows of n - 1 numbers are not refused where others were not
 same-refusal : (s : List ℕ) (p a b : ℕ) → stepRefusal s p a b ≡ 0 → stepRefusal s p (jobOf s .tree .n - 1) (jobOf s .tree .n - 1) ≡ 0
@@ -142,31 +145,23 @@ module _ (s plan : List ℕ) where
           refusal-next (state k) (state (suc k)) (sent k) (sent (suc k)) (held k) (held (suc k)) h,
         )
 
-  -- H steps of a plan that keeps the rules are all taken, and the next says done; the run then carries the plan's last column, and at each
-  -- step every node holds no more than its memory
+  -- a plan that keeps the rules runs to its end
   pub runs-to-its-end : TreeWithin (jobOf s .tree) → Keeps (jobOf s) (planIn (jobOf s) plan)
       → (state : ℕ → Running) (outcome : ℕ → Outcome) (sent held : ℕ → List ℕ) → stepRefusal s (length plan) (length (sent 0)) (length (held 0)) ≡ 0
-      → Run s plan (suc (H (jobOf s))) state outcome sent held
-      → ((k : ℕ) → k < H (jobOf s) → outcome k ≡ Taken)
-      × ((outcome (H (jobOf s)) ≡ Done)
-      × (((v : ℕ) → link (jobOf s .tree .n) v ≡ true → carriedIn (state (H (jobOf s))) v ≡ planIn (jobOf s) plan v (H (jobOf s)))
-      × ((k i : ℕ) → k < H (jobOf s) → suc i < jobOf s .tree .n → getD (held (suc k)) i 0 ≤ jobOf s .tree .memory (suc i))))
+      → Run s plan (suc (H (jobOf s))) state outcome sent held → RunsToItsEnd s plan state outcome held
   runs-to-its-end within keeps state outcome sent held fits run =
       let e = H job in
-      let r = at e (omega arith) in (
-        λ k l. taken-at within keeps state outcome sent held fits (suc (H job)) run k (omega arith) l (at k (omega arith)),
-        (
-          is-done (state e) (state (suc e)) (sent e) (sent (suc e)) (held e) (held (suc e)) (r .2) (omega (arith, r .0)) (outcome e) (run .steps e (omega arith)),
-          (
-            r .1,
-            λ k i l q.
-                held-next (state k) (state (suc k)) (sent k) (sent (suc k)) (held k) (held (suc k)) within
-                (step-at within keeps state outcome sent held fits (suc (H job)) run k (omega arith) l (at k (omega arith)))
-                i
-                q,
-          ),
-        ),
-      )
+      let r = at e (omega arith) in
+      record {
+        taken = λ k l. taken-at within keeps state outcome sent held fits (suc (H job)) run k (omega arith) l (at k (omega arith));
+        done = is-done (state e) (state (suc e)) (sent e) (sent (suc e)) (held e) (held (suc e)) (r .2) (omega (arith, r .0)) (outcome e) (run .steps e (omega arith));
+        last-column = r .1;
+        held-within = λ k i l q.
+            held-next (state k) (state (suc k)) (sent k) (sent (suc k)) (held k) (held (suc k)) within
+            (step-at within keeps state outcome sent held fits (suc (H job)) run k (omega arith) l (at k (omega arith)))
+            i
+            q;
+      }
     where
       at : (k : ℕ) → k ≤ H job → Ready within keeps state outcome sent held fits (suc (H job)) run k
       at k l = ready within keeps state outcome sent held fits (suc (H job)) run k (omega arith) l
@@ -225,3 +220,19 @@ module _ (s plan : List ℕ) where
 pub answered-keeps : (last total : ℕ) (s plan₀ plan₁ peaks₀ peaks₁ : List ℕ) → Answers (Planned last total) s plan₀ plan₁ peaks₀ peaks₁ → Keeps (jobOf s) (planIn (jobOf s) plan₁)
 unfolding Answers
 answered-keeps last total s plan₀ plan₁ peaks₀ peaks₁ h = h .1 .1 .1 .1 .0 .keeps
+
+-- where none of 1 to 11 applies, the job is within the limits
+none-within : (s : List ℕ) (p a b : ℕ) → stepRefusal s p a b ≡ 0 → TreeWithin (jobOf s .tree)
+none-within s p a b z = go (ℕ-discrete (refusal s) 0)
+  where
+    go : Dec (refusal s ≡ 0) → TreeWithin (jobOf s .tree)
+    go (yes e) = accepted-within s e .tree
+    go (no ne) = absurd (ne (sym (step-read s p a b ne) ∙ z))
+
+-- so a plan given by the memory question runs to its end
+pub answered-runs : (last total : ℕ) (s plan₀ plan₁ peaks₀ peaks₁ : List ℕ) → Answers (Planned last total) s plan₀ plan₁ peaks₀ peaks₁
+    → (state : ℕ → Running) (outcome : ℕ → Outcome) (sent held : ℕ → List ℕ) → stepRefusal s (length plan₁) (length (sent 0)) (length (held 0)) ≡ 0
+    → Run s plan₁ (suc (H (jobOf s))) state outcome sent held → RunsToItsEnd s plan₁ state outcome held
+answered-runs last total s plan₀ plan₁ peaks₀ peaks₁ answer state outcome sent held fits run =
+    runs-to-its-end s plan₁ (none-within s (length plan₁) (length (sent 0)) (length (held 0)) fits)
+    (answered-keeps last total s plan₀ plan₁ peaks₀ peaks₁ answer) state outcome sent held fits run

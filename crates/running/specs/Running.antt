@@ -108,3 +108,11 @@ start = record { slot = 0; carried = tab (λ v. 0) mostNodes }
 pub record Run (s plan : List ℕ) (m : ℕ) (state : ℕ → Running) (outcome : ℕ → Outcome) (sent held : ℕ → List ℕ) : Type 0 where
   pub starts : state 0 ≡ start
   pub steps : (k : ℕ) → k < m → Stepped (outcome k) s plan (state k) (state (suc k)) (sent k) (sent (suc k)) (held k) (held (suc k))
+
+-- a run of H + 1 steps goes to the end of the plan: H steps are taken, and the next says done; it then carries the plan's last column, and at
+-- each step every node holds no more than its memory
+pub record RunsToItsEnd (s plan : List ℕ) (state : ℕ → Running) (outcome : ℕ → Outcome) (held : ℕ → List ℕ) : Type 0 where
+  pub taken : (k : ℕ) → k < H (jobOf s) → outcome k ≡ Taken
+  pub done : outcome (H (jobOf s)) ≡ Done
+  pub last-column : (v : ℕ) → link (jobOf s .tree .n) v ≡ true → carriedIn (state (H (jobOf s))) v ≡ planIn (jobOf s) plan v (H (jobOf s))
+  pub held-within : (k i : ℕ) → k < H (jobOf s) → suc i < jobOf s .tree .n → getD (held (suc k)) i 0 ≤ jobOf s .tree .memory (suc i)

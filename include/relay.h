@@ -58,6 +58,63 @@ struct relay_memory_answer relay_memory_question(
     uint64_t *plan, size_t plan_length,
     uint64_t *peaks, size_t peaks_length);
 
+/*
+ * A running tree: the slot number, and at place i what the link into node i has
+ * carried by the end of that slot. Places 0 and n to 63 have no link; steps keep
+ * what stands there.
+ */
+struct relay_running {
+    uint64_t slot;
+    uint64_t carried[64];
+};
+
+/* The running tree of the first step: slot 0, and nothing carried. */
+struct relay_running relay_start(void);
+
+/*
+ * What a step gives: its number, the link that 14 names (0 with any other
+ * number), and the running tree for the next step.
+ */
+struct relay_step_answer {
+    uint64_t number;
+    uint64_t link;
+    struct relay_running tree;
+};
+
+/*
+ * Takes the next column of a plan, that of the slot one past the slot number of
+ * `tree`. Column 0 is never read. `plan` is laid out as the memory question fills
+ * it, but any numbers may stand there, and any in `tree`.
+ *
+ * The number is 0 where the column is taken. The tree given then has that slot
+ * and that column, `sent` holds for each of nodes 1 to n-1 in turn what its link
+ * carries in the slot, and `held` what the node holds at its end: at a leaf what
+ * it has been sent and not played, at an inner node what it has been sent and not
+ * yet sent on to the child that has the least.
+ *
+ * The number is else the first that applies, of 1 to 10 above and these, and the
+ * tree given is `tree` and `sent` and `held` are as they were:
+ *
+ *   11  `plan_length` is not (n-1)(H+1), or `sent_length` or `held_length` is
+ *       not n-1
+ *  100  done: the slot number is H or later
+ *   14  the column breaks a rule on the link into node `link`: it falls from
+ *       what is carried or passes T(M), it is too little or too much for a leaf,
+ *       or an inner node is behind a child of it or too far ahead of one, which
+ *       counts on the links into both
+ *
+ * `job` must point to at least `job_length` readable bytes, `plan` to at least
+ * `plan_length` readable numbers, `sent` and `held` to at least `sent_length` and
+ * `held_length` writable numbers. Neither `sent` nor `held` may overlap another
+ * of the four. Nothing is kept.
+ */
+struct relay_step_answer relay_step(
+    struct relay_running tree,
+    const uint8_t *job, size_t job_length,
+    const uint64_t *plan, size_t plan_length,
+    uint64_t *sent, size_t sent_length,
+    uint64_t *held, size_t held_length);
+
 #ifdef __cplusplus
 }
 #endif

@@ -70,6 +70,98 @@ static void memory_question(void)
     expect_all("short plan, peaks", tree_q_peaks, peaks, 3);
 }
 
+/* A step that was not taken: the tree and the rows are as before. */
+static void expect_kept(const char *name, const struct relay_running *before,
+                        const struct relay_step_answer *answer,
+                        const uint64_t *sent, const uint64_t *held)
+{
+    static const uint64_t untouched[3] = { 91, 92, 93 };
+
+    expect(name, before->slot, answer->tree.slot);
+    expect_all(name, before->carried, answer->tree.carried, 64);
+    expect_all(name, untouched, sent, 3);
+    expect_all(name, untouched, held, 3);
+}
+
+/* The plan of Tree Q from its first step to done. */
+static void run_to_the_end(void)
+{
+    /* S - D at the leaves, S less the least child's S at node 1. */
+    static const uint64_t held_due[4][3] = {
+        { 3, 0, 5 }, { 4, 0, 6 }, { 1, 0, 0 }, { 0, 0, 0 }
+    };
+    struct relay_running tree = relay_start();
+    struct relay_step_answer answer;
+    size_t slot, i;
+
+    expect("first tree, slot", 0, tree.slot);
+    for (i = 0; i < 64; i++) {
+        expect("first tree, carried", 0, tree.carried[i]);
+    }
+    tree.carried[0] = 71;
+    tree.carried[4] = 72;
+    tree.carried[63] = 73;
+    for (slot = 1; slot <= 4; slot++) {
+        uint64_t sent[3] = { 91, 92, 93 };
+        uint64_t held[3] = { 91, 92, 93 };
+
+        answer = relay_step(tree, tree_q, sizeof tree_q, tree_q_plan, 15,
+                            sent, 3, held, 3);
+        expect("step, number", 0, answer.number);
+        expect("step, link", 0, answer.link);
+        expect("step, slot", slot, answer.tree.slot);
+        for (i = 0; i < 3; i++) {
+            expect("step, carried", tree_q_plan[5 * i + slot],
+                   answer.tree.carried[i + 1]);
+            expect("step, sent", tree_q_plan[5 * i + slot] -
+                   tree_q_plan[5 * i + slot - 1], sent[i]);
+        }
+        expect_all("step, held", held_due[slot - 1], held, 3);
+        expect("step, place 0", 71, answer.tree.carried[0]);
+        expect("step, place 4", 72, answer.tree.carried[4]);
+        expect("step, place 63", 73, answer.tree.carried[63]);
+        tree = answer.tree;
+    }
+    for (i = 0; i < 2; i++) {
+        uint64_t sent[3] = { 91, 92, 93 };
+        uint64_t held[3] = { 91, 92, 93 };
+
+        answer = relay_step(tree, tree_q, sizeof tree_q, tree_q_plan, 15,
+                            sent, 3, held, 3);
+        expect("done, number", 100, answer.number);
+        expect("done, link", 0, answer.link);
+        expect_kept("done", &tree, &answer, sent, held);
+    }
+}
+
+/* Steps that are refused: the bytes, a length, a rule on one link. */
+static void refused_steps(void)
+{
+    uint64_t plan[15];
+    uint64_t sent[3] = { 91, 92, 93 };
+    uint64_t held[3] = { 91, 92, 93 };
+    struct relay_running tree = relay_start();
+    struct relay_step_answer answer;
+
+    memcpy(plan, tree_q_plan, sizeof plan);
+    plan[6] = 3; /* Leaf 2 has 4 to play by slot 1. */
+
+    answer = relay_step(tree, tree_q, 9, plan, 15, sent, 3, held, 3);
+    expect("short job, number", 1, answer.number);
+    expect("short job, link", 0, answer.link);
+    expect_kept("short job", &tree, &answer, sent, held);
+
+    answer = relay_step(tree, tree_q, sizeof tree_q, plan, 15, sent, 3, held, 2);
+    expect("short row, number", 11, answer.number);
+    expect("short row, link", 0, answer.link);
+    expect_kept("short row", &tree, &answer, sent, held);
+
+    answer = relay_step(tree, tree_q, sizeof tree_q, plan, 15, sent, 3, held, 3);
+    expect("starved leaf, number", 14, answer.number);
+    expect("starved leaf, link", 2, answer.link);
+    expect_kept("starved leaf", &tree, &answer, sent, held);
+}
+
 int main(void)
 {
     uint8_t wrong_mark[sizeof tree_q];
@@ -81,6 +173,8 @@ int main(void)
     expect("Tree Q", 0, relay_refusal(tree_q, sizeof tree_q));
     expect("wrong mark", 2, relay_refusal(wrong_mark, sizeof wrong_mark));
     memory_question();
+    run_to_the_end();
+    refused_steps();
 
     printf("header: %d passed, %d failed\n", passed, failed);
     return failed == 0 ? 0 : 1;

@@ -99,7 +99,7 @@ fn one_leaf(frame: u32, rate: u64) -> Job {
 }
 
 /// The jobs under "Example trees".
-fn example_jobs() -> [Job; 9] {
+pub fn example_jobs() -> [Job; 9] {
     let (rates, frames) = ([5, 10, 4], [4, 10, 1]);
     let listed = tree_q([0, 1], [4, 0, 6], rates, frames);
     assert_eq!(

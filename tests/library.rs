@@ -11,6 +11,24 @@ pub struct MemoryAnswer {
     pub total: u64,
 }
 
+/// Places of a running tree.
+pub const PLACES: usize = 64;
+
+#[repr(C)]
+#[derive(Clone, Copy, PartialEq, Eq, Hash)]
+pub struct Running {
+    pub slot: u64,
+    pub carried: [u64; PLACES],
+}
+
+#[repr(C)]
+#[derive(Clone, Copy, PartialEq, Eq)]
+pub struct StepAnswer {
+    pub number: u64,
+    pub link: u64,
+    pub tree: Running,
+}
+
 extern "C" {
     fn relay_refusal(job: *const u8, length: usize) -> u64;
 
@@ -22,6 +40,20 @@ extern "C" {
         peaks: *mut u64,
         peaks_length: usize,
     ) -> MemoryAnswer;
+
+    fn relay_start() -> Running;
+
+    fn relay_step(
+        tree: Running,
+        job: *const u8,
+        job_length: usize,
+        plan: *const u64,
+        plan_length: usize,
+        sent: *mut u64,
+        sent_length: usize,
+        held: *mut u64,
+        held_length: usize,
+    ) -> StepAnswer;
 }
 
 /// A buffer and the part of it that is lent.
@@ -54,4 +86,42 @@ pub fn memory_question(job: Part<u8>, plan: Part<u64>, peaks: Part<u64>) -> Memo
     // SAFETY: each part lies within its buffer, and the buffers do not overlap,
     // as each is lent mutably for the whole call.
     unsafe { relay_memory_question(job, job_length, plan, plan_length, peaks, peaks_length) }
+}
+
+/// The library's first running tree.
+pub fn start() -> Running {
+    // SAFETY: nothing is lent.
+    unsafe { relay_start() }
+}
+
+/// The library's step of a running tree.
+///
+/// The job and the plan are lent mutably, so that a write by the library, which
+/// would be a fault, can be seen by the caller.
+pub fn step(
+    tree: Running,
+    job: Part<u8>,
+    plan: Part<u64>,
+    sent: Part<u64>,
+    held: Part<u64>,
+) -> StepAnswer {
+    let (job, job_length) = lend(job);
+    let (plan, plan_length) = lend(plan);
+    let (sent, sent_length) = lend(sent);
+    let (held, held_length) = lend(held);
+    // SAFETY: each part lies within its buffer, and the buffers do not overlap,
+    // as each is lent mutably for the whole call.
+    unsafe {
+        relay_step(
+            tree,
+            job,
+            job_length,
+            plan,
+            plan_length,
+            sent,
+            sent_length,
+            held,
+            held_length,
+        )
+    }
 }

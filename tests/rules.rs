@@ -33,7 +33,7 @@ impl<'a> Rules<'a> {
     }
 
     /// What leaf `node` has played by the end of `slot`.
-    fn played(&self, node: usize, slot: usize) -> u64 {
+    pub fn played(&self, node: usize, slot: usize) -> u64 {
         let delay = usize::from(self.job.records[node - 1].delay);
         let frames = slot.saturating_sub(delay).min(self.job.frames.len());
         self.sums[frames]

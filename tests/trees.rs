@@ -134,7 +134,7 @@ pub fn small(_: u64, rng: &mut Rng) -> Case {
     Case::job(small_job(rng))
 }
 
-fn small_job(rng: &mut Rng) -> Job {
+pub fn small_job(rng: &mut Rng) -> Job {
     let nodes = rng.within(4..=9) as usize;
     let parents = any_parents(nodes, rng);
     let frames = rng.within(3..=9) as usize;

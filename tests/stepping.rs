@@ -1,0 +1,409 @@
+//! One step of a running tree, held against an independent model of it.
+
+use std::collections::HashSet;
+use std::hash::{DefaultHasher, Hash, Hasher};
+
+use crate::compare::Mismatch;
+use crate::job::Job;
+use crate::lending::Lent;
+use crate::library::{step, Part, Running, StepAnswer};
+use crate::reader;
+
+/// The numbers of a step that are not of the job's bytes.
+pub const TAKEN: u64 = 0;
+pub const WRONG_LENGTH: u64 = 11;
+pub const BROKEN: u64 = 14;
+pub const DONE: u64 = 100;
+const NUMBERS: usize = 101;
+
+/// Guard bytes on each side of a job's bytes, and guard words on each side of a
+/// plan.
+const GUARD: usize = 32;
+
+/// A job, or bytes that are none, with a running tree, a plan and the lengths of
+/// the lent rows.
+#[derive(Clone)]
+pub struct Case {
+    pub bytes: Vec<u8>,
+    pub job: Option<Job>,
+    pub tree: Running,
+    pub plan: Vec<u64>,
+    pub sent: usize,
+    pub held: usize,
+}
+
+impl Case {
+    /// A job with rows of the right lengths.
+    pub fn new(job: Job, tree: Running, plan: Vec<u64>) -> Self {
+        let links = job.records.len();
+        Case {
+            bytes: job.encode(),
+            job: Some(job),
+            tree,
+            plan,
+            sent: links,
+            held: links,
+        }
+    }
+}
+
+/// A way to break a rule.
+#[derive(Clone, Copy, PartialEq, Eq, Debug)]
+pub enum Breach {
+    /// P1: less than is carried.
+    Falls,
+    /// P1: more than all frames.
+    Passes,
+    /// P2: a leaf has less than it plays.
+    Starves,
+    /// P2: a leaf has more than it can hold.
+    Overflows,
+    /// P3: a child has more than its parent.
+    ChildAhead,
+    /// P3: a parent has more than it can hold back from a child.
+    ParentAhead,
+}
+
+pub const BREACHES: [Breach; 6] = [
+    Breach::Falls,
+    Breach::Passes,
+    Breach::Starves,
+    Breach::Overflows,
+    Breach::ChildAhead,
+    Breach::ParentAhead,
+];
+
+/// What a step must come to.
+pub enum Due {
+    Taken {
+        tree: Box<Running>,
+        sent: Vec<u64>,
+        held: Vec<u64>,
+    },
+    Done,
+    Refused(u64),
+    /// Each breach and a link on which it is one.
+    Broken(Vec<(Breach, u64)>),
+}
+
+impl Due {
+    fn number(&self) -> u64 {
+        match self {
+            Due::Taken { .. } => TAKEN,
+            Due::Done => DONE,
+            Due::Refused(number) => *number,
+            Due::Broken(_) => BROKEN,
+        }
+    }
+}
+
+/// The model: what a step must come to, from the words of the document.
+pub fn due(case: &Case) -> Due {
+    let read = reader::refusal(&case.bytes);
+    let Some(job) = &case.job else {
+        assert!(read != 0, "the bytes of no job");
+        return Due::Refused(read);
+    };
+    assert!(read == 0, "the bytes of a job");
+    let links = job.records.len();
+    let delays = job.records.iter().map(|record| usize::from(record.delay));
+    let slots = job.frames.len() + delays.max().expect("a link") + 1;
+    if case.plan.len() != links * slots || case.sent != links || case.held != links {
+        return Due::Refused(WRONG_LENGTH);
+    }
+    let next = i128::from(case.tree.slot) + 1;
+    if next >= slots as i128 {
+        return Due::Done;
+    }
+    Slot::new(job, case, slots, next).due()
+}
+
+/// The numbers of one slot. Wide ones, so that none runs over.
+struct Slot<'a> {
+    job: &'a Job,
+    tree: &'a Running,
+    next: i128,
+    /// What each link is to have carried by the end of the slot.
+    column: Vec<i128>,
+}
+
+impl<'a> Slot<'a> {
+    fn new(job: &'a Job, case: &'a Case, slots: usize, next: i128) -> Self {
+        let rows = case.plan.chunks(slots);
+        Slot {
+            job,
+            tree: &case.tree,
+            next,
+            column: rows.map(|row| i128::from(row[next as usize])).collect(),
+        }
+    }
+
+    /// The sum of the first frames, as many as that; of all where there are fewer.
+    fn sum(&self, count: i128) -> i128 {
+        let frames = self.job.frames.iter().zip(0..count);
+        frames.map(|(&frame, _)| i128::from(frame)).sum()
+    }
+
+    fn children(&self, node: usize) -> Vec<usize> {
+        let parents = self.job.records.iter().map(|record| record.parent);
+        let with = parents.zip(1..);
+        with.filter(|&(parent, _)| usize::from(parent) == node)
+            .map(|(_, child)| child)
+            .collect()
+    }
+
+    fn played(&self, leaf: usize) -> i128 {
+        self.sum(self.next - i128::from(self.job.records[leaf - 1].delay))
+    }
+
+    fn due(&self) -> Due {
+        let total = self.sum(self.job.frames.len() as i128);
+        let mut breaches = Vec::new();
+        let mut tree = Box::new(*self.tree);
+        tree.slot = self.next as u64;
+        let (mut sent, mut held) = (Vec::new(), Vec::new());
+        for node in 1..=self.column.len() {
+            let mut broken = |is: bool, breach: Breach, links: &[usize]| {
+                if is {
+                    breaches.extend(links.iter().map(|&link| (breach, link as u64)));
+                }
+            };
+            let own = self.column[node - 1];
+            let before = i128::from(self.tree.carried[node]);
+            let memory = i128::from(self.job.records[node - 1].memory);
+            broken(own < before, Breach::Falls, &[node]);
+            broken(own > total, Breach::Passes, &[node]);
+            let mut left = own;
+            let children = self.children(node);
+            if children.is_empty() {
+                left = self.played(node);
+                broken(own < left, Breach::Starves, &[node]);
+                broken(own > left + memory, Breach::Overflows, &[node]);
+            }
+            for (at, child) in children.into_iter().enumerate() {
+                let below = self.column[child - 1];
+                broken(below > own, Breach::ChildAhead, &[node, child]);
+                broken(own > below + memory, Breach::ParentAhead, &[node, child]);
+                left = if at == 0 { below } else { left.min(below) };
+            }
+            // Where a rule is broken these are not used.
+            tree.carried[node] = own as u64;
+            sent.push((own - before) as u64);
+            held.push((own - left) as u64);
+        }
+        if breaches.is_empty() {
+            Due::Taken { tree, sent, held }
+        } else {
+            Due::Broken(breaches)
+        }
+    }
+}
+
+/// Counts of steps.
+#[derive(Clone)]
+pub struct Counts {
+    pub steps: u64,
+    /// Steps met for each number.
+    pub numbers: [u64; NUMBERS],
+    /// Steps with 14 in which rules are broken in one way alone, for each way.
+    pub alone: [u64; BREACHES.len()],
+}
+
+/// What has been stepped so far.
+pub struct Steps {
+    pub counts: Counts,
+    pub repeated: u64,
+    seen: HashSet<u64>,
+}
+
+/// What differs, the number expected and that got.
+type Problem = (String, u64, u64);
+
+impl Steps {
+    pub fn new() -> Self {
+        Steps {
+            counts: Counts {
+                steps: 0,
+                numbers: [0; NUMBERS],
+                alone: [0; BREACHES.len()],
+            },
+            repeated: 0,
+            seen: HashSet::new(),
+        }
+    }
+
+    /// Steps once, and compares all that the library gives with the model. A step
+    /// met before is not counted.
+    pub fn compare(&mut self, case: &Case) -> Result<StepAnswer, Mismatch> {
+        let due = due(case);
+        let answer = problem(case, &due).map_err(|problem| mismatch(problem, case))?;
+        let mut hasher = DefaultHasher::new();
+        (&case.bytes, &case.tree, &case.plan, case.sent, case.held).hash(&mut hasher);
+        if !self.seen.insert(hasher.finish()) {
+            self.repeated += 1;
+            return Ok(answer);
+        }
+        self.counts.steps += 1;
+        self.counts.numbers[due.number() as usize] += 1;
+        if let Due::Broken(breaches) = due {
+            for (count, breach) in self.counts.alone.iter_mut().zip(BREACHES) {
+                *count += u64::from(breaches.iter().all(|&(other, _)| other == breach));
+            }
+        }
+        Ok(answer)
+    }
+
+    /// As `compare`, of a step whose number is known.
+    pub fn known(&mut self, case: &Case, number: u64) -> Result<StepAnswer, Mismatch> {
+        let answer = self.compare(case)?;
+        expect("number known by construction", number, answer.number, case)?;
+        Ok(answer)
+    }
+}
+
+/// Whether `got` is what is expected of a case.
+pub fn expect(what: &str, expected: u64, got: u64, case: &Case) -> Result<(), Mismatch> {
+    equal(what, expected, got).map_err(|problem| mismatch(problem, case))
+}
+
+fn mismatch((what, expected, got): Problem, case: &Case) -> Mismatch {
+    Mismatch {
+        what: format!("step at slot number {}: {what}", case.tree.slot),
+        expected,
+        got,
+        bytes: case.bytes.clone(),
+    }
+}
+
+fn equal(what: &str, expected: u64, got: u64) -> Result<(), Problem> {
+    if expected == got {
+        return Ok(());
+    }
+    Err((what.to_string(), expected, got))
+}
+
+fn all_equal(what: &str, expected: &[u64], got: &[u64]) -> Result<(), Problem> {
+    let differ = |&at: &usize| expected.get(at) != got.get(at);
+    match (0..expected.len().max(got.len())).find(differ) {
+        None => Ok(()),
+        Some(at) => {
+            let value = |words: &[u64]| words.get(at).copied().unwrap_or(0);
+            let place = format!("{what} at place {at}");
+            Err((place, value(expected), value(got)))
+        }
+    }
+}
+
+/// Steps in two rounds, both of which must come to what is due and be the same.
+fn problem(case: &Case, due: &Due) -> Result<StepAnswer, Problem> {
+    let (first, sent, held) = call(case, 0)?;
+    judge(case, due, &first, &sent, &held)?;
+    let (again, sent, held) = call(case, 1)?;
+    judge(case, due, &again, &sent, &held)?;
+    equal("same answer again", 1, u64::from(first == again))?;
+    Ok(first)
+}
+
+/// Whether an answer and the rows after it are what is due.
+fn judge(
+    case: &Case,
+    due: &Due,
+    got: &StepAnswer,
+    sent: &Lent,
+    held: &Lent,
+) -> Result<(), Problem> {
+    equal("number", due.number(), got.number)?;
+    let tree = match due {
+        Due::Taken { tree, .. } => tree,
+        _ => &case.tree,
+    };
+    equal("slot number handed on", tree.slot, got.tree.slot)?;
+    all_equal("carried bytes", &tree.carried, &got.tree.carried)?;
+    match due {
+        Due::Broken(breaches) => {
+            let allowed = breaches.iter().any(|&(_, link)| link == got.link);
+            let what = "link named, of which this is one";
+            if !allowed {
+                equal(what, breaches[0].1, got.link)?;
+            }
+        }
+        _ => equal("link", 0, got.link)?,
+    }
+    match due {
+        Due::Taken {
+            sent: due_sent,
+            held: due_held,
+            ..
+        } => {
+            all_equal("sent bytes", due_sent, sent.held())?;
+            all_equal("held bytes", due_held, held.held())
+        }
+        _ => {
+            let untouched = sent.untouched() && held.untouched();
+            equal("rows kept where none is taken", 1, u64::from(untouched))
+        }
+    }
+}
+
+/// Steps the library. Guards, the job's bytes and the plan must be as they were.
+/// The guards, the rows and the alignment differ from round to round.
+fn call(case: &Case, round: usize) -> Result<(StepAnswer, Lent, Lent), Problem> {
+    let job_start = GUARD + (case.bytes.len() + 5 * round) % 8;
+    let mut job = Guarded::new(&case.bytes, job_start, [0x00, 0xA5][round]);
+    let mut plan = Guarded::new(&case.plan, GUARD, [u64::MAX, 1][round]);
+    let mut sent = Lent::new(case.sent, 1 + 2 * round as u64);
+    let mut held = Lent::new(case.held, 2 + 2 * round as u64);
+    let parts = (sent.part(), held.part());
+
+    let got = step(
+        case.tree,
+        job.part(),
+        plan.part(),
+        (sent.buffer(), parts.0),
+        (held.buffer(), parts.1),
+    );
+
+    let guards = sent.guards_kept() && held.guards_kept();
+    equal("guard words of the rows kept", 1, u64::from(guards))?;
+    equal("the job's bytes and guards kept", 1, u64::from(job.kept()))?;
+    equal(
+        "the plan's words and guards kept",
+        1,
+        u64::from(plan.kept()),
+    )?;
+    Ok((got, sent, held))
+}
+
+/// Items that are lent to be read, between guards.
+struct Guarded<'a, T> {
+    items: &'a [T],
+    start: usize,
+    fill: T,
+    buffer: Vec<T>,
+}
+
+impl<'a, T: Copy + PartialEq> Guarded<'a, T> {
+    fn new(items: &'a [T], start: usize, fill: T) -> Self {
+        let mut buffer = vec![fill; start];
+        buffer.extend(items);
+        buffer.resize(start + items.len() + GUARD, fill);
+        Guarded {
+            items,
+            start,
+            fill,
+            buffer,
+        }
+    }
+
+    fn part(&mut self) -> Part<'_, T> {
+        let part = self.start..self.start + self.items.len();
+        (&mut self.buffer, part)
+    }
+
+    fn kept(&self) -> bool {
+        let (before, rest) = self.buffer.split_at(self.start);
+        let (items, after) = rest.split_at(self.items.len());
+        let mut guards = before.iter().chain(after);
+        items == self.items && guards.all(|&item| item == self.fill)
+    }
+}

@@ -8,6 +8,22 @@ pub struct Answer {
     pub total: u64,
 }
 
+/// A running tree: its slot number, and what the link into each node has carried.
+#[repr(C)]
+#[derive(Clone, Copy)]
+pub struct Running {
+    pub slot: u64,
+    pub carried: [u64; 64],
+}
+
+#[repr(C)]
+#[derive(Clone, Copy)]
+pub struct StepAnswer {
+    pub number: u64,
+    pub link: u64,
+    pub tree: Running,
+}
+
 extern "C" {
     fn relay_memory_question(
         job: *const u8,
@@ -17,6 +33,20 @@ extern "C" {
         peaks: *mut u64,
         peaks_len: usize,
     ) -> Answer;
+
+    fn relay_start() -> Running;
+
+    fn relay_step(
+        tree: Running,
+        job: *const u8,
+        job_len: usize,
+        plan: *const u64,
+        plan_len: usize,
+        sent: *mut u64,
+        sent_len: usize,
+        held: *mut u64,
+        held_len: usize,
+    ) -> StepAnswer;
 }
 
 /// The memory question, answered by the library.
@@ -30,6 +60,36 @@ pub fn memory_question(job: &[u8], plan: &mut [u64], peaks: &mut [u64]) -> Answe
             plan.len(),
             peaks.as_mut_ptr(),
             peaks.len(),
+        )
+    }
+}
+
+/// The first running tree.
+pub fn start() -> Running {
+    // SAFETY: nothing is lent.
+    unsafe { relay_start() }
+}
+
+/// A step of a running tree.
+pub fn step(
+    tree: Running,
+    job: &[u8],
+    plan: &[u64],
+    sent: &mut [u64],
+    held: &mut [u64],
+) -> StepAnswer {
+    // SAFETY: each pointer comes with the length of the slice it was taken from.
+    unsafe {
+        relay_step(
+            tree,
+            job.as_ptr(),
+            job.len(),
+            plan.as_ptr(),
+            plan.len(),
+            sent.as_mut_ptr(),
+            sent.len(),
+            held.as_mut_ptr(),
+            held.len(),
         )
     }
 }

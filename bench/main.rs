@@ -1,6 +1,7 @@
 //! Times the memory question of the proved library against a peer written for speed.
 //! Both are given the same jobs in turn, on one core, with buffers written beforehand.
-//! Only a disagreement between the two fails the run.
+//! Then times a step of a running tree, which has no peer. Only a disagreement between
+//! the two, or a step of the library's own plan that is not taken, fails the run.
 
 mod jobs;
 mod library;
@@ -27,6 +28,9 @@ const SHAPES: [(Shape, Delays); 11] = [
     (Shape::Random, Delays::Equal),
     (Shape::CaterpillarDown, Delays::Equal),
 ];
+
+/// Sizes of the jobs of which steps are timed.
+const STEP_SIZES: [(usize, usize); 3] = [(4, 12), (16, 3_000), (64, 65_536)];
 
 /// A job with fewer numbers in its plan than this is small.
 const SMALL: usize = 1_000_000;
@@ -116,6 +120,58 @@ fn seconds(small: bool, mut question: impl FnMut() -> Answer) -> f64 {
     }
 }
 
+/// Seconds for one step on average, while a plan of the library runs from its start and,
+/// once done, from its start again; nothing where some step is neither taken nor done.
+fn step_seconds(job: &Job, plan: &[u64], sent: &mut [u64], held: &mut [u64]) -> Option<f64> {
+    let start = Instant::now();
+    let mut tree = library::start();
+    let mut taken = 0;
+    loop {
+        let answer = library::step(tree, black_box(&job.bytes), plan, sent, held);
+        tree = match answer.number {
+            0 => answer.tree,
+            100 if tree.slot + 1 == job.slots as u64 => library::start(),
+            _ => return None,
+        };
+        taken += 1;
+        let elapsed = start.elapsed();
+        if elapsed >= REPEAT {
+            return Some(elapsed.as_secs_f64() / f64::from(taken));
+        }
+    }
+}
+
+/// Times a step for jobs of each size and prints a line for each. Says whether each step
+/// was taken.
+fn time_steps() -> bool {
+    let mut all_taken = true;
+    println!("a step, of trees of random shape with spread delays:");
+    println!(
+        "{:>5} {:>6} {:>10} {:>19}",
+        "nodes", "frames", "ns", "ns / (M + n)"
+    );
+    for (nodes, frames) in STEP_SIZES {
+        let job = jobs::make(Shape::Random, Delays::Spread, nodes, frames);
+        let mut outputs = Outputs::new(&job, nodes);
+        library::memory_question(&job.bytes, &mut outputs.plan, &mut outputs.peaks);
+        let (mut sent, mut held) = (outputs.peaks.clone(), outputs.peaks);
+        let mut best = f64::INFINITY;
+        for _ in 0..SMALL_RUNS {
+            match step_seconds(&job, &outputs.plan, &mut sent, &mut held) {
+                Some(seconds) => best = best.min(seconds),
+                None => all_taken = false,
+            }
+        }
+        let ns = best * 1e9;
+        let each = ns / (frames + nodes) as f64;
+        println!("{nodes:>5} {frames:>6} {ns:>10.0} {each:>19.2}");
+    }
+    if !all_taken {
+        println!("MISMATCH: a step of the library's own plan was refused");
+    }
+    all_taken
+}
+
 fn main() -> ExitCode {
     let mut peer = Peer::new();
     let mut agreed = true;
@@ -202,7 +258,8 @@ fn main() -> ExitCode {
         "worst ratio {:.2} ({}); rows over the bar: {over}",
         worst.0, worst.1
     );
-    if agreed {
+    let taken = time_steps();
+    if agreed && taken {
         ExitCode::SUCCESS
     } else {
         ExitCode::FAILURE

@@ -266,7 +266,7 @@ fn each_breach(rng: &mut Rng, steps: &mut Steps) -> Found {
         (Breach::ParentAhead, (0, [0, 0, 0], [5, 4, 0]), &[1, 3]),
     ];
     for (breach, (slot, carried, column), links) in cases {
-        let mut case = drawn(&job, slot, &column, &mut Rng::new(rng.word()));
+        let mut case = drawn(&job, slot, &column, rng);
         case.tree.carried[1..4].copy_from_slice(&carried);
         let Due::Broken(breaches) = due(&case) else {
             unreachable!("the column breaks a rule");
@@ -321,13 +321,13 @@ fn refusals(rng: &mut Rng, steps: &mut Steps) -> Found {
         steps.known(&kept, number)?;
 
         for case in [case, kept] {
-            for short in wrong(case.plan.len()) {
+            for length in wrong(case.plan.len()) {
                 let mut case = case.clone();
-                case.plan.resize(short, 7);
+                case.plan.resize(length, 7);
                 steps.known(&case, WRONG_LENGTH)?;
             }
-            for short in wrong(case.sent) {
-                let sent = short;
+            for length in wrong(case.sent) {
+                let sent = length;
                 steps.known(
                     &Case {
                         sent,
@@ -335,7 +335,7 @@ fn refusals(rng: &mut Rng, steps: &mut Steps) -> Found {
                     },
                     WRONG_LENGTH,
                 )?;
-                let held = short;
+                let held = length;
                 steps.known(
                     &Case {
                         held,

@@ -248,11 +248,54 @@ fn advance(
     }
 }
 
-// The sums of the longest film.
-fn sums_room() -> [u64; Job::MOST_FRAMES + 1]
+// The step on an accepted job with slots left, with room for its sums.
+fn with_room(
+    state: Running,
+    bytes: &[u8],
+    job: Job,
+    room: &mut [u64],
+    plan: &[u64],
+    sent: &mut [u64],
+    held: &mut [u64],
+) -> Step
+    requires { ⌜ (Accepted (now bytes) job × (job .frames < length (now room))) × (((state .slot + 1 < widthOf job) × (length (now plan) ≡ (job .nodes - 1) * widthOf job)) × ((length (now sent) ≡ job .nodes - 1) × (length (now held) ≡ job .nodes - 1))) ⌝ }
+    ensures { λ r. ⌜ work.Advanced (r .outcome) job (tab (tree.T (jobOf (now (bytes .entry)))) (frameCount (now (bytes .entry)) + 1)) (now (plan .entry)) state (r .state) (now (sent .entry)) (now (sent .exit)) (now (held .entry)) (now (held .exit)) ⌝ }
+{
+    let count = job.frames + 1;
+    job::sums(bytes, &mut room[0..count]);
+    advance(state, job, &room[0..count], plan, sent, held)
+}
+
+// Room for the sums of a film of fewer frames than this is cleared in no time; that for the longest film costs more than a short
+// film's step.
+const SHORT: usize = 1024;
+
+fn short_room() -> [u64; SHORT]
+    ensures { λ r. ⌜ 1024 ≡ length r ⌝ }
+{
+    [0u64; SHORT]
+}
+
+fn long_room() -> [u64; Job::MOST_FRAMES + 1]
     ensures { λ r. ⌜ mostFrames + 1 ≡ length r ⌝ }
 {
     [0u64; Job::MOST_FRAMES + 1]
+}
+
+// The step on an accepted job with a short film and slots left.
+fn with_short_film(
+    state: Running,
+    bytes: &[u8],
+    job: Job,
+    plan: &[u64],
+    sent: &mut [u64],
+    held: &mut [u64],
+) -> Step
+    requires { ⌜ (Accepted (now bytes) job × (job .frames < 1024)) × (((state .slot + 1 < widthOf job) × (length (now plan) ≡ (job .nodes - 1) * widthOf job)) × ((length (now sent) ≡ job .nodes - 1) × (length (now held) ≡ job .nodes - 1))) ⌝ }
+    ensures { λ r. ⌜ work.Advanced (r .outcome) job (tab (tree.T (jobOf (now (bytes .entry)))) (frameCount (now (bytes .entry)) + 1)) (now (plan .entry)) state (r .state) (now (sent .entry)) (now (sent .exit)) (now (held .entry)) (now (held .exit)) ⌝ }
+{
+    let mut room = short_room();
+    with_room(state, bytes, job, &mut room[0..SHORT], plan, sent, held)
 }
 
 // The step on an accepted job with slots left.
@@ -267,10 +310,19 @@ fn with_job(
     requires { ⌜ Accepted (now bytes) job × (((state .slot + 1 < widthOf job) × (length (now plan) ≡ (job .nodes - 1) * widthOf job)) × ((length (now sent) ≡ job .nodes - 1) × (length (now held) ≡ job .nodes - 1))) ⌝ }
     ensures { λ r. ⌜ work.Advanced (r .outcome) job (tab (tree.T (jobOf (now (bytes .entry)))) (frameCount (now (bytes .entry)) + 1)) (now (plan .entry)) state (r .state) (now (sent .entry)) (now (sent .exit)) (now (held .entry)) (now (held .exit)) ⌝ }
 {
-    let count = job.frames + 1;
-    let mut sums = sums_room();
-    job::sums(bytes, &mut sums[0..count]);
-    advance(state, job, &sums[0..count], plan, sent, held)
+    if job.frames < SHORT {
+        return with_short_film(state, bytes, job, plan, sent, held);
+    }
+    let mut room = long_room();
+    with_room(
+        state,
+        bytes,
+        job,
+        &mut room[0..Job::MOST_FRAMES + 1],
+        plan,
+        sent,
+        held,
+    )
 }
 
 impl Running {

@@ -1,72 +1,20 @@
 use mathlib.Core.Path.{_≡_, refl, ap, sym, _∙_}
-use mathlib.Core.List.{List, _++_}
-use Prim.Native.Nat.{ℕ, _+_, _-_, _≤_}
-use lib.ListN.{length, take, length-append}
-use lib.Seq.{take-at}
-use Rattle.base.specs.Table.{tab}
-use Rattle.base.proofs.TableLaws.{length-tab}
-use Rattle.job.specs.Bytes.{frameCount, jobOf}
-use Rattle.job.specs.Tree.{T}
-use Rattle.curves.proofs.SumsLaws.{job-sums}
+use Prim.Native.Nat.{ℕ, _+_, _-_, _≤_, _<_}
+use lib.ListN.{length, take}
+use lib.Seq.{length-take-le}
+use Rattle.job.specs.Limits.{mostFrames}
 use native.Mathlib.Omega.{arith}
 use borrow.Author.Needs.{needs}
 use Rattle.running.proofs.with_job.Statement.{statement}
 use Rattle.running.proofs.with_job.Tie as tie
 use Rattle.running.proofs.with_job.Reads as reads
 use Rattle.running.proofs.with_job.Lts as lts
-use Rattle.job.proofs.sums.Reads as sums-reads
-use Rattle.running.proofs.advance.Reads as advance-reads
-use Rattle.running.proofs.sums_room.Reads as sums-room-reads
+use Rattle.running.proofs.long_room.Reads as long-room-reads
+use Rattle.running.proofs.with_room.Reads as with-room-reads
+use Rattle.running.proofs.with_short_film.Reads as with-short-film-reads
 
--- as many sums as frames and one
-filled : (c : tie.After-sums2) → length (c .sums2 .last .1 .0) ≡ c .before .before .before .before .before .before .before .before .args .job .frames + 1
-filled c =
-    let st = c .before .before .before .before .before .before .before .before in
-    ap length (c .sums2 .ensures) ∙ length-tab (T (jobOf (st .args .bytes .now))) _ ∙ ap (λ (n : ℕ). n + 1) (sym (st .pre .0 .frames))
-
--- the part that is lent on holds T(0) to T(M)
-sums-part : (c : tie.After-sums2) (room : List ℕ)
-    → take (c .before .before .before .before .before .before .before .before .args .job .frames + 1 - 0) (c .sums2 .last .1 .0 ++ room) ≡ tab (T (jobOf (c .before .before .before .before .before .before .before .before .args .bytes .now))) (frameCount (c .before .before .before .before .before .before .before .before .args .bytes .now) + 1)
-sums-part c room =
-    let e : c .before .before .before .before .before .before .before .before .args .job .frames + 1 - 0 ≡ c .before .before .before .before .before .before .before .before .args .job .frames + 1 = omega arith in
-    rw e (take-at (c .sums2 .last .1 .0) room (c .before .before .before .before .before .before .before .before .args .job .frames + 1) (filled c)) ∙ c .sums2 .ensures
-
-add-count : tie.Need-add-count
-add-count c = search needs
-
-sums-room-requires : tie.Need-sums-room-requires
-sums-room-requires c κs = search needs
-
-sub-sums : tie.Need-sub-sums
-sub-sums c = search needs
-
-part-sums-start : tie.Need-part-sums-start
-part-sums-start c = search needs
-
-part-sums-end : tie.Need-part-sums-end
-part-sums-end c = search needs
-
-sums-requires : tie.Need-sums-requires
-sums-requires c κs = search needs
-
-sub-advance : tie.Need-sub-advance
-sub-advance c = search needs
-
-part-advance-start : tie.Need-part-advance-start
-part-advance-start c = search needs
-
-part-advance-end : tie.Need-part-advance-end
-part-advance-end c =
-    simp length-append (omega (arith, filled (c .before .before), c .before .before .before .before .sums-room .ensures))
-
-advance-requires : tie.Need-advance-requires
-advance-requires c κs =
-    let st = c .before .before .before .before .before .before .before .before .before .before .before .before .before in
-    let acc = st .pre .0 in
-    let s = st .args .bytes .now in (
-      (acc .tree-within, omega (arith, acc .frames, acc .within .frames-to)),
-      (rw (sums-part (c .before .before .before .before .before)) (job-sums (jobOf s) (acc .within)), st .pre .1),
-    )
+with-short-film-requires : tie.Need-with-short-film-requires
+with-short-film-requires c κs = search needs
 
 same-length : tie.Need-same-length
 same-length c = search needs
@@ -75,22 +23,53 @@ same-length-2 : tie.Need-same-length-2
 same-length-2 c = search needs
 
 returns : tie.Need-returns
-returns c = rw (sums-part (c .before .before .before .before .before .before .before .before .before .before)) at (c .before .before .before .before .advance .ensures)
+returns c = search needs
+
+long-room-requires : tie.Need-long-room-requires
+long-room-requires c κs = search needs
+
+add-with-room : tie.Need-add-with-room
+add-with-room c = search needs
+
+sub-with-room : tie.Need-sub-with-room
+sub-with-room c = search needs
+
+part-room-start : tie.Need-part-room-start
+part-room-start c = search needs
+
+part-room-end : tie.Need-part-room-end
+part-room-end c = search needs
+
+with-room-requires : tie.Need-with-room-requires
+with-room-requires c κs =
+    let st = c .before .before .before .before .before .before .before .before .before .before in
+    let acc = st .pre .0 in
+    let long : length (take (mostFrames + 1 - 0) (c .before .before .before .long-room .result)) ≡ mostFrames + 1 = length-take-le (mostFrames + 1) (c .before .before .before .long-room .result) (omega (arith, c .before .before .before .long-room .ensures)) in
+    ((acc, omega (arith, long, acc .frames, acc .within .frames-to)), st .pre .1)
+
+same-length-3 : tie.Need-same-length-3
+same-length-3 c = search needs
+
+same-length-4 : tie.Need-same-length-4
+same-length-4 c = search needs
+
+returns-2 : tie.Need-returns-2
+returns-2 c = search needs
 
 pub with-job-spec : {M : Type 1} → statement M
 with-job-spec =
     tie.close
     (tie.spec
-    add-count
-    sums-room-requires
-    sub-sums
-    part-sums-start
-    part-sums-end
-    sums-requires
-    sub-advance
-    part-advance-start
-    part-advance-end
-    advance-requires
+    with-short-film-requires
     same-length
     same-length-2
-    returns)
+    returns
+    long-room-requires
+    add-with-room
+    sub-with-room
+    part-room-start
+    part-room-end
+    with-room-requires
+    same-length-3
+    same-length-4
+    returns-2)

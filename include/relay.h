@@ -51,7 +51,8 @@ struct relay_memory_answer {
  *
  * `job` must point to at least `job_length` readable bytes, `plan` and `peaks` to
  * at least `plan_length` and `peaks_length` writable numbers, and none of the
- * three may overlap another. Nothing is kept.
+ * three may overlap another. Nothing is kept. The call needs about 1.7 MB of
+ * stack.
  */
 struct relay_memory_answer relay_memory_question(
     const uint8_t *job, size_t job_length,
@@ -106,7 +107,7 @@ struct relay_step_answer {
  * `job` must point to at least `job_length` readable bytes, `plan` to at least
  * `plan_length` readable numbers, `sent` and `held` to at least `sent_length` and
  * `held_length` writable numbers. Neither `sent` nor `held` may overlap another
- * of the four. Nothing is kept.
+ * of the four. Nothing is kept. The call needs about 0.6 MB of stack.
  */
 struct relay_step_answer relay_step(
     struct relay_running tree,

@@ -7,7 +7,7 @@ use Prim.Native.Nat.{ℕ, zero, suc, _+_, _-_, _*_, _^_, _≤_, _<_}
 use native.Mathlib.Omega.{arith}
 use lib.Dec.{eqb, ltb}
 use lib.ListN.{length}
-use borrow.Author.Tests.{lt-ltb, le-ltb, eq-eqb, ne-eqb, eqb-true}
+use borrow.Author.Tests.{lt-ltb, le-ltb, eq-eqb, ne-eqb, eqb-true, eqb-false}
 use Rattle.base.specs.Number.{number}
 use Rattle.base.specs.Range.{some}
 use Rattle.base.proofs.BoolLaws.{true-or-false, not-both, otherwise, lt-or-le}
@@ -135,6 +135,88 @@ delays-are t n w f within e h =
     rw (l, no) refl)
     (true-or-false (link (t .n) i))))
 
+-- ---- bytes that are accepted
+
+-- no node fails
+no-node : (t : Tree) (wrong : ℕ → Bool) → ((i : ℕ) → link (t .n) i ≡ true → wrong i ≡ false) → someNode t wrong ≡ false
+no-node t wrong h =
+    all-fail (λ i. link (t .n) i && wrong i) (t .n)
+    (λ i q. ⊎-elim
+    (λ (l : link (t .n) i ≡ true). rw (l, h i l) refl)
+    (λ (l : link (t .n) i ≡ false). rw l refl)
+    (true-or-false (link (t .n) i)))
+
+delay-right : (t : Tree) → TreeWithin t → (i : ℕ) → link (t .n) i ≡ true → delayWrong (leaf t i) (t .delay i) ≡ false
+delay-right t h i l =
+    ⊎-elim
+    (λ (e : leaf t i ≡ true). rw (e, le-ltb longestDelay (t .delay i) (h .leaf-delays i l e)) refl)
+    (λ (e : leaf t i ≡ false). rw (e, h .inner-delays i l e) refl)
+    (true-or-false (leaf t i))
+
+nodes-right : (t : Tree) → TreeWithin t → nodesRefusal t ≡ 0
+nodes-right t h =
+    rw (
+      no-node t (λ i. parentWrong i (t .parent i)) (λ i l. rw (lt-ltb (t .parent i) i (h .parents i l)) refl),
+      no-node t (λ i. delayWrong (leaf t i) (t .delay i)) (delay-right t h),
+      no-node t (λ i. amountWrong (t .memory i) (t .rate i))
+          (λ i l. rw (le-ltb greatestMemory (t .memory i) (h .memories i l), le-ltb greatestRate (t .rate i) (h .rates i l)) refl),
+    )
+    refl
+
+-- bytes with the right head and length that say a job within the limits are accepted
+pub accepted-if : (s : List ℕ) → headRefusal s ≡ 0 → length s ≡ wantedLength s → JobWithin (jobOf s) → refusal s ≡ 0
+accepted-if s head long h =
+    let t = h .tree in
+    let sizes : sizeRefusal (nodeCount s) (frameCount s) ≡ 0 =
+    rw (
+      le-ltb (nodeCount s) fewestNodes (t .nodes-from),
+      le-ltb mostNodes (nodeCount s) (t .nodes-to),
+      le-ltb (frameCount s) fewestFrames (h .frames-from),
+      le-ltb mostFrames (frameCount s) (h .frames-to),
+    )
+    refl in
+    at-rest s head sizes long
+    ∙ rw (
+      nodes-right (treeOf s) t,
+      all-fail (λ m. frameWrong (frameAt s m)) (frameCount s) (λ m q. le-ltb greatestFrame (frameAt s m) (h .frames m q)),
+    )
+    refl
+
+head-right : (s : List ℕ) → refusal s ≡ 0 → headRefusal s ≡ 0
+head-right s h =
+    ⊎-elim
+    (λ (e : eqb (headRefusal s) 0 ≡ true). eqb-true (headRefusal s) 0 e)
+    (λ (e : eqb (headRefusal s) 0 ≡ false). let ne = eqb-false (headRefusal s) 0 e in sym (at-head s ne) ∙ h)
+    (true-or-false (eqb (headRefusal s) 0))
+
+-- who is a leaf, the delays and memories don't say
+leaves-same : (j : JobData) (w : ℕ) (b : ℕ → ℕ) (i : ℕ) → leaf (answeredJob j w b .tree) i ≡ leaf (j .tree) i
+unfolding leaf hasChild child
+leaves-same j w b i = refl
+
+-- an answered job is within the limits
+pub answered-within : (j : JobData) (w : ℕ) (b : ℕ → ℕ) → JobWithin j → w ≤ longestDelay → ((i : ℕ) → link (j .tree .n) i ≡ true → b i ≤ greatestMemory)
+    → JobWithin (answeredJob j w b)
+answered-within j w b h short small =
+    let t = h .tree in
+    record {
+      tree =
+          record {
+            nodes-from = t .nodes-from;
+            nodes-to = t .nodes-to;
+            parents = t .parents;
+            leaf-delays = λ i l e. let q : leaf (j .tree) i ≡ true = sym (leaves-same j w b i) ∙ e in rw q short;
+            inner-delays = λ i l e. let q : leaf (j .tree) i ≡ false = sym (leaves-same j w b i) ∙ e in rw q refl;
+            memories = λ i l. let (p, q) = link-in (j .tree .n) i l in rw (perNode-in (j .tree .n) b i p q) (small i l);
+            rates = t .rates;
+          };
+      frames-from = h .frames-from;
+      frames-to = h .frames-to;
+      frames = h .frames;
+    }
+
+-- ---- the answered job
+
 module _ (s : List ℕ) (w : ℕ) (b : ℕ → ℕ) (accepted : refusal s ≡ 0) (short : w ≤ longestDelay)
     (small : (i : ℕ) → link (nodeCount s) i ≡ true → b i ≤ greatestMemory) where
   sized : Sized s
@@ -166,3 +248,11 @@ module _ (s : List ℕ) (w : ℕ) (b : ℕ → ℕ) (accepted : refusal s ≡ 0)
         M = frames-stay s w b x;
         frame = frames x;
       }
+
+  -- and it is accepted
+  pub answered-read : refusal (putBack s w b) ≡ 0
+  answered-read =
+      accepted-if (putBack s w b)
+      (head-stays s w b ∙ head-right s accepted)
+      (length-putBack s w b ∙ sized .long ∙ sym (wanted-stays s w b))
+      (rw answered-bytes (answered-within (jobOf s) w b within short small))

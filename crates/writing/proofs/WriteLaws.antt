@@ -1,5 +1,5 @@
 -- Laws of numbers written into bytes, and of an answer put back: what changes, and what stays.
-use mathlib.Core.Bool.{true, false, cond}
+use mathlib.Core.Bool.{Bool, true, false, cond}
 use mathlib.Core.List.{List}
 use mathlib.Core.Path.{_≡_, refl, ap, sym, _∙_}
 use mathlib.Core.Logic.{_⊎_, inl, inr, ⊎-elim}
@@ -76,6 +76,15 @@ written-set s place (suc width) x i v h =
     rw (written-set s place width (x / 256) i v (omega arith))
     (set-comm (written s place width (x / 256)) i (place + width) v (x % 256) (omega arith))
 
+-- a loop that writes the last byte, and then the bytes before it
+pub written-last : (s : List ℕ) (place width x : ℕ) → 0 < width
+    → written (set s (place + (width - 1)) (x % 256)) place (width - 1) (x / 256) ≡ written s place width x
+unfolding written
+written-last s place zero x h = absurd (omega arith)
+written-last s place (suc width) x h =
+    let e : suc width - 1 ≡ width = omega arith in
+    rw e (written-set s place width (x / 256) (place + width) (x % 256) (omega arith))
+
 -- ---- one record
 
 module _ (t : Tree) (w : ℕ) (b : ℕ → ℕ) (s : List ℕ) (i : ℕ) where
@@ -137,6 +146,12 @@ module _ (t : Tree) (w : ℕ) (b : ℕ → ℕ) (s : List ℕ) (i : ℕ) where
   record-inner e =
       number-apart delayed (recordPlace i + 3) 8 (b i) (recordPlace i + 1) 2 (inl (omega arith))
       ∙ rw e refl
+
+-- what the code writes for node i, where it knows who is a leaf from a set
+pub record-is : (t : Tree) (w : ℕ) (b : ℕ → ℕ) (s p : List ℕ) (i : ℕ) (isLeaf : Bool) → p ≡ s → isLeaf ≡ leaf t i
+    → written (cond isLeaf (written p (recordPlace i + 1) 2 w) p) (recordPlace i + 3) 8 (b i) ≡ recordPut t w b s i
+unfolding recordPut
+record-is t w b s p i isLeaf e h = rw (e, h) refl
 
 -- ---- the records of the nodes below k, of n
 

@@ -1,0 +1,129 @@
+use mathlib.Core.Bool.{Bool, true, false}
+use mathlib.Core.Path.{_≡_, refl, ap, sym, _∙_}
+use Prim.Native.Nat.{ℕ, _-_, _≤_}
+use native.Mathlib.Omega.{arith}
+use lib.ListN.{length}
+use borrow.Author.Needs.{needs}
+use Rattle.job.specs.Bytes.{nodeCount}
+use Rattle.job.specs.Tree.{Tree, leaf}
+use Rattle.job.specs.declared.Reading.{Reading}
+use Rattle.job.proofs.RefusalLaws.{Accepted, read-accepts, refusedOr-number}
+use Rattle.writing.proofs.PutLaws.{memoryWrong, put-job, put-length, put-delay, put-memory, put-done}
+use Rattle.writing.proofs.put_back.Statement.{statement}
+use Rattle.writing.proofs.put_back.Tie as tie
+use Rattle.writing.proofs.put_back.Reads as reads
+use Rattle.writing.proofs.put_back.Lts as lts
+use Rattle.job.proofs.Job.leaves.Reads as leaves-reads
+use Rattle.job.proofs.read.Reads as read-reads
+use Rattle.writing.proofs.put_records.Reads as put-records-reads
+use Rattle.writing.proofs.some_memory_wrong.Reads as some-memory-wrong-reads
+
+-- past the first test the job is accepted, and the struct holds it
+accepted : (c : tie.Else1) → Accepted (c .before .before .before .before .before .before .args .bytes .now) (c .before .before .read .result .job)
+accepted c = read-accepts _ (c .before .before .read .result) (c .before .before .read .ensures) (c .if1 .left)
+
+nodes-are : (c : tie.Else1) → c .before .before .read .result .job .nodes ≡ nodeCount (c .before .before .before .before .before .before .args .bytes .now)
+nodes-are c = ap (λ (t : Tree). t .n) (accepted c .held)
+
+-- past the second there is a memory for each node
+long : (c : tie.Else2) → let st = c .before .before .before .before .before .before .before .before in
+    length (st .args .memories .now) ≡ nodeCount (st .args .bytes .now) - 1
+long c = c .if2 .left ∙ ap (λ (n : ℕ). n - 1) (nodes-are (c .before .before))
+
+-- the test of the memories, at the count that the bytes have
+wrong-is : (c : tie.After-some-memory-wrong) → let st = c .before .before .before .before .before .before .before .before .before .before in
+    c .some-memory-wrong .result ≡ memoryWrong (st .args .bytes .now) (st .args .w) (st .args .memories .now) (nodeCount (st .args .bytes .now))
+wrong-is c = c .some-memory-wrong .ensures ∙ rw (nodes-are (c .before .before .before .before)) refl
+
+read-requires : tie.Need-read-requires
+read-requires c κs = search needs
+
+same-length : tie.Need-same-length
+same-length c = search needs
+
+returns : tie.Need-returns
+returns c =
+    let r = c .before .before .read in
+    let st = c .before .before .before .before .before .before in
+    put-job (st .args .bytes .now) (st .args .w) (st .args .memories .now) (r .result .refusal)
+    (ap (λ (x : Reading). x .refusal) (r .ensures) ∙ refusedOr-number _ _) (c .if1 .taken)
+
+sub-if2 : tie.Need-sub-if2
+sub-if2 c = omega (arith, accepted (c .before) .tree-within .nodes-from)
+
+same-length-2 : tie.Need-same-length-2
+same-length-2 c = search needs
+
+returns-2 : tie.Need-returns-2
+returns-2 c =
+    let a = c .before .before in
+    let st = a .before .before .before .before .before .before in
+    put-length (st .args .bytes .now) (st .args .w) (st .args .memories .now) (accepted a .none)
+    (λ z. c .if2 .taken (z ∙ ap (λ (n : ℕ). n - 1) (sym (nodes-are a))))
+
+same-length-3 : tie.Need-same-length-3
+same-length-3 c = search needs
+
+returns-3 : tie.Need-returns-3
+returns-3 c =
+    let a = c .before .before .before in
+    let st = a .before .before .before .before .before .before in
+    put-delay (st .args .bytes .now) (st .args .w) (st .args .memories .now) (accepted a .none) (long (c .before)) (c .if3 .taken)
+
+some-memory-wrong-requires : tie.Need-some-memory-wrong-requires
+some-memory-wrong-requires c κs = (omega (arith, accepted (c .before .before .before) .tree-within .nodes-from), c .before .if2 .left)
+
+same-length-4 : tie.Need-same-length-4
+same-length-4 c = search needs
+
+returns-4 : tie.Need-returns-4
+returns-4 c =
+    let b = c .before .before .before in
+    let a = b .before .before in
+    let st = a .before .before .before .before .before .before in
+    put-memory (st .args .bytes .now) (st .args .w) (st .args .memories .now) (accepted a .none) (long b) (c .before .before .if3 .left)
+    (sym (wrong-is (c .before)) ∙ c .if4 .taken)
+
+leaves-requires : tie.Need-leaves-requires
+leaves-requires c κs = let w = accepted (c .before .before .before .before .before .before) .tree-within in (w .nodes-from, w .nodes-to)
+
+put-records-requires : tie.Need-put-records-requires
+put-records-requires c κs =
+    let b = c .before .before .before .before .before in
+    let h = accepted (b .before .before) in (
+      h .none,
+      (nodes-are (b .before .before), (λ k. c .leaves .ensures k ∙ ap (λ (t : Tree). leaf t k) (h .held), b .if2 .left)),
+    )
+
+same-length-5 : tie.Need-same-length-5
+same-length-5 c = search needs
+
+returns-5 : tie.Need-returns-5
+returns-5 c =
+    let p = c .before .before in
+    let f = p .before .before .before in
+    let b = f .before .before .before in
+    let a = b .before .before in
+    let st = a .before .before .before .before .before .before in
+    put-done (st .args .bytes .now) (st .args .w) (st .args .memories .now) (accepted a .none) (long b) (f .before .before .if3 .left)
+    (sym (wrong-is (f .before)) ∙ f .if4 .left) _ (p .put-records .ensures)
+
+pub put-back-spec : {M : Type 1} → statement M
+put-back-spec =
+    tie.close
+    (tie.spec
+    read-requires
+    same-length
+    returns
+    sub-if2
+    same-length-2
+    returns-2
+    same-length-3
+    returns-3
+    some-memory-wrong-requires
+    same-length-4
+    returns-4
+    leaves-requires
+    put-records-requires
+    same-length-5
+    returns-5)

@@ -1,0 +1,122 @@
+use mathlib.Core.Path.{_≡_, refl, ap, sym, _∙_}
+use mathlib.Core.List.{List}
+use Prim.Native.Nat.{ℕ, _+_, _-_, _≤_, _<_}
+use native.Mathlib.Numerals.{add-one}
+use native.Mathlib.Omega.{arith}
+use lib.ListN.{length}
+use borrow.Author.Needs.{needs}
+use Rattle.job.specs.Bytes.{nodeCount, treeOf}
+use Rattle.job.proofs.RefusalLaws.{accepted-sized}
+use Rattle.job.proofs.ReadLaws.{record-in}
+use Rattle.writing.specs.PutBack.{putBack, recordPut, memoriesIn}
+use Rattle.writing.proofs.WriteLaws.{recordsTo, records-none, record-is, records-more, length-records}
+use Rattle.writing.proofs.put_records.Statement.{statement}
+use Rattle.writing.proofs.put_records.Tie as tie
+use Rattle.writing.proofs.put_records.Reads as reads
+use Rattle.writing.proofs.put_records.Lts as lts
+use Rattle.base.proofs.member.Reads as member-reads
+use Rattle.writing.proofs.put_record.Reads as put-record-reads
+
+abbrev Inv-loop : tie.InvT-loop
+Inv-loop s₀ nodes leaves w memories i₀ s i = (0 < i) × ((i ≤ nodes) × (s ≡ recordsTo (treeOf s₀) w (memoriesIn memories) s₀ nodes i))
+
+abbrev μ-loop : tie.MeasureT-loop
+μ-loop s₀ nodes leaves w memories i₀ s i = nodes - i
+
+loop-holds : tie.Need-loop-holds Inv-loop μ-loop
+loop-holds c =
+    let st = c .before .before in
+    let s = st .args .s .now in
+    let sized = accepted-sized s (st .pre .0) in (
+      omega arith,
+      (
+        omega (arith, sized .nodes-from),
+        sym (records-none (treeOf s) (st .args .w) (memoriesIn (st .args .memories .now)) s (st .args .nodes)),
+      ),
+    )
+
+member-requires : tie.Need-member-requires Inv-loop μ-loop
+member-requires c κs = search needs
+
+sub-put-record : tie.Need-sub-put-record Inv-loop μ-loop
+sub-put-record c = search needs
+
+mul-put-record : tie.Need-mul-put-record Inv-loop μ-loop
+mul-put-record c = search needs
+
+shared-slice-read-put-record : tie.Need-shared-slice-read-put-record Inv-loop μ-loop
+shared-slice-read-put-record c = search needs
+
+put-record-requires : tie.Need-put-record-requires Inv-loop μ-loop
+put-record-requires c κs =
+    let l = c .before .before .before .before .loop in
+    let st = c .before .before .before .before .before .before .before in
+    let s = st .args .s .now in
+    let sized = accepted-sized s (st .pre .0) in
+    let long : length (l .s) ≡ length s =
+    ap (λ (x : List ℕ). length x) (l .inv .1 .1) ∙ length-records (treeOf s) (st .args .w) (memoriesIn (st .args .memories .now)) s (st .args .nodes) (l .i) in (
+      l .inv .0,
+      (
+        omega (arith, sized .nodes-to, st .pre .1 .0),
+        omega (arith, long, record-in s sized (l .i) (l .inv .0) (omega (arith, st .pre .1 .0))),
+      ),
+    )
+
+add-i : tie.Need-add-i Inv-loop μ-loop
+add-i c = search needs
+
+loop-less : tie.Need-loop-less Inv-loop μ-loop
+loop-less c = search needs
+
+loop-again : tie.Need-loop-again Inv-loop μ-loop
+loop-again c =
+    let p = c .before .before in
+    let l = p .before .before .before .before .before .loop in
+    let st = p .before .before .before .before .before .before .before .before in
+    let s = st .args .s .now in
+    let t = treeOf s in
+    let w = st .args .w in
+    let b = memoriesIn (st .args .memories .now) in
+    let n = st .args .nodes in (
+      omega arith,
+      (
+        omega arith,
+        p .put-record .ensures
+            ∙ record-is t w b (recordsTo t w b s n (l .i)) (l .s) (l .i) (p .before .before .member .result) (l .inv .1 .1) (p .before .before .member .ensures ∙ st .pre .1 .1 .0 (l .i))
+            ∙ rw add-one (sym (records-more t w b s n (l .i) (l .inv .0) (omega arith))),
+      ),
+    )
+
+same-length : tie.Need-same-length Inv-loop μ-loop
+same-length c =
+    let l = c .before .loop in
+    let st = c .before .before .before .before in
+    let s = st .args .s .now in
+    ap (λ (x : List ℕ). length x) (l .inv .1 .1) ∙ length-records (treeOf s) (st .args .w) (memoriesIn (st .args .memories .now)) s (st .args .nodes) (l .i)
+
+returns : tie.Need-returns Inv-loop μ-loop
+unfolding putBack
+returns c =
+    let l = c .before .loop in
+    let st = c .before .before .before .before in
+    let s = st .args .s .now in
+    let q : l .i ≡ nodeCount s = omega (arith, st .pre .1 .0) in
+    l .inv .1 .1 ∙ rw (st .pre .1 .0, q) refl
+
+pub put-records-spec : {M : Type 1} → statement M
+put-records-spec =
+    tie.close
+    (tie.spec
+    Inv-loop
+    μ-loop
+    loop-holds
+    member-requires
+    sub-put-record
+    mul-put-record
+    shared-slice-read-put-record
+    put-record-requires
+    add-i
+    loop-less
+    loop-again
+    same-length
+    returns)

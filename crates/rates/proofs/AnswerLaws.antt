@@ -1,0 +1,80 @@
+-- From the work on an accepted job to the rate question's answer.
+use mathlib.Core.List.{List}
+use mathlib.Core.Path.{_≡_, refl, ap, sym, _∙_}
+use mathlib.Core.Logic.{inr}
+use Prim.Native.Nat.{ℕ, suc, _+_, _-_, _≤_, _<_}
+use native.Mathlib.Omega.{arith}
+use lib.Dec.{eqb}
+use lib.ListN.{length}
+use borrow.Author.Tests.{eq-eqb, ne-eqb}
+use Rattle.base.specs.Table.{tab}
+use Rattle.job.specs.Limits.{longestDelay}
+use Rattle.job.specs.Tree.{Tree, JobData, T}
+use Rattle.job.specs.Bytes.{frameCount, jobOf}
+use Rattle.job.specs.Refusal.{refusal}
+use Rattle.job.specs.Read.{treeIn}
+use Rattle.job.specs.declared.Job.{Job}
+use Rattle.job.proofs.RefusalLaws.{Accepted}
+use Rattle.smoothing.specs.Tree.{Link}
+use Rattle.curves.specs.Curves.{sumsIn}
+use Rattle.curves.proofs.SumsLaws.{sums-of}
+use Rattle.writing.specs.PutBack.{putBack, memoriesIn}
+use Rattle.writing.proofs.AnswerLaws.{answered-bytes, answered-read}
+use Rattle.rates.specs.declared.Sizing.{Sizing}
+use Rattle.rates.specs.declared.Sizing.the-variants.{Refused, Sized}
+use Rattle.rates.specs.Rates.{startDelay, memory}
+use Rattle.rates.specs.Answer.{earlyRefusal, Least, Sizes}
+use Rattle.rates.specs.Work.{Worked}
+use Rattle.rates.proofs.LeastLaws.{delay-least, none-serves, memory-serves, total-least, from-least, memory-fits, within-rates}
+use Rattle.rates.proofs.WorkLaws.{memory-at}
+
+-- ---- refusals 1 to 11
+
+pub early-read : (s : List ℕ) (lent : ℕ) → (refusal s ≡ 0 → ⊥) → earlyRefusal s lent ≡ refusal s
+unfolding earlyRefusal
+early-read s lent h = rw (ne-eqb (refusal s) 0 h) refl
+
+pub early-lent : (s : List ℕ) (lent : ℕ) → refusal s ≡ 0 → (lent ≡ jobOf s .tree .n - 1 → ⊥) → earlyRefusal s lent ≡ 11
+unfolding earlyRefusal
+early-lent s lent h ne = rw (h, ne-eqb lent (jobOf s .tree .n - 1) ne) refl
+
+early-none : (s : List ℕ) (lent : ℕ) → refusal s ≡ 0 → lent ≡ jobOf s .tree .n - 1 → earlyRefusal s lent ≡ 0
+unfolding earlyRefusal
+early-none s lent h e = rw (h, eq-eqb lent (jobOf s .tree .n - 1) e) refl
+
+-- ---- demand 3 of what is answered
+
+pub least-answer : (s : List ℕ) (job : Job) → Accepted s job → (w : ℕ) (l : List ℕ) → let j = jobOf s in w ≤ longestDelay
+    → w ≡ startDelay (j .tree) (j .M) (T j) → l ≡ tab (λ i. memory (j .tree) (j .M) (T j) w (suc i)) (j .tree .n - 1) → Least s w (memoriesIn l)
+least-answer s job acc w l fits is-delay is =
+    let j = jobOf s in
+    let b = memoriesIn l in
+    let is-memory : (i : ℕ) → Link (j .tree .n) i → memoriesIn l i ≡ memory (j .tree) (j .M) (T j) w i =
+    λ i h. memory-at (memory (j .tree) (j .M) (T j) w) (j .tree .n) l is i (h .0) (h .1) in
+    let serves = memory-serves j (acc .within) w fits is-delay b is-memory in
+    let small = memory-fits j (acc .within) w fits is-delay b is-memory in
+    record {
+      serves = serves;
+      least-delay = delay-least j (acc .within) w fits is-delay;
+      least-total = total-least j (acc .within) w fits is-delay b is-memory;
+      least-from = from-least j (acc .within) w fits is-delay b is-memory;
+      put-back = within-rates (putBack s w b) j w b (answered-bytes s w b (acc .none) fits small) (answered-read s w b (acc .none) fits small) serves;
+    }
+
+-- ---- the same job, by its struct and by its bytes
+
+worked-at : (t t′ : Tree) (M M′ : ℕ) (f f′ : ℕ → ℕ) → t ≡ t′ → M ≡ M′ → f ≡ f′ → (answer : Sizing) (l l′ : List ℕ)
+    → Worked answer t M f l l′ → Worked answer t′ M′ f′ l l′
+worked-at t t′ M M′ f f′ p q r answer l l′ h = rw (p, q, r) at h
+
+module _ (s : List ℕ) (job : Job) (acc : Accepted s job) (l l′ : List ℕ) (long : length l ≡ jobOf s .tree .n - 1) where
+  says : (answer : Sizing) → Worked answer (jobOf s .tree) (jobOf s .M) (T (jobOf s)) l l′ → Sizes answer s l l′
+  unfolding Worked Sizes
+  says (Refused e) w = (w .1 .1, inr (early-none s (length l) (acc .none) long, (w .0, none-serves (jobOf s) (acc .within) (w .1 .0))))
+  says (Sized d all) w =
+      (early-none s (length l) (acc .none) long, (w .0, (w .1 .0, (w .1 .1 .0, (w .1 .1 .1, least-answer s job acc d l′ (w .0) (w .1 .0) (w .1 .1 .0))))))
+
+  pub sized : (answer : Sizing) → Worked answer (treeIn job) (job .frames) (sumsIn (tab (T (jobOf s)) (frameCount s + 1))) l l′ → Sizes answer s l l′
+  sized answer h =
+      says answer
+      (worked-at (treeIn job) (jobOf s .tree) (job .frames) (jobOf s .M) (sumsIn (tab (T (jobOf s)) (frameCount s + 1))) (T (jobOf s)) (acc .held) (acc .frames) (sums-of (jobOf s)) answer l l′ h)

@@ -1,0 +1,9 @@
+pub mod SumLaws
+pub mod DelayLaws
+pub mod TheoryLaws
+pub mod ServeLaws
+pub mod LeastLaws
+pub mod NeedLaws
+pub mod WalkLaws
+pub mod WorkLaws
+pub mod AnswerLaws

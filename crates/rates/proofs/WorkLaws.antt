@@ -1,0 +1,112 @@
+-- The needs that the pass finds are document 01's, and so are the memories made of them.
+use mathlib.Core.Bool.{true}
+use mathlib.Core.List.{List}
+use mathlib.Core.Path.{_≡_, refl, ap, sym, _∙_}
+use Prim.Native.Nat.{ℕ, suc, _+_, _-_, _≤_, _<_, min}
+use native.Mathlib.Omega.{arith}
+use lib.ListN.{length, getD}
+use Rattle.base.specs.Range.{some}
+use Rattle.base.specs.Table.{tab}
+use Rattle.base.proofs.RangeLaws.{sumOver-monotone, some-passes, leastOver-attained, leastOver-cong}
+use Rattle.base.proofs.TableLaws.{getD-tab, tab-cong}
+use Rattle.job.specs.Limits.{mostNodes, greatestTotal, greatestRate}
+use Rattle.job.specs.Tree.{Tree, TreeWithin, link, child, leaf}
+use Rattle.job.specs.Bytes.{perNode}
+use Rattle.job.proofs.ReadLaws.{perNode-in}
+use Rattle.job.proofs.TreeLaws.{link-is, link-in, child-in}
+use Rattle.smoothing.proofs.NeedLaws.{need-parent}
+use Rattle.curves.specs.Curves.{Film, sumsIn, lastIn, HoldsSums}
+use Rattle.curves.proofs.SumsLaws.{film-of, sum-fits}
+use Rattle.writing.specs.PutBack.{memoriesIn}
+use Rattle.rates.specs.Rates.{total, floorRate, leastRate, need, memory}
+use Rattle.rates.specs.Work.{mostAhead, needsOf, Needs, memoryBy}
+use Rattle.rates.proofs.TheoryLaws.{question, good, need-is}
+use Rattle.rates.proofs.NeedLaws.{most-under, need-ahead}
+
+-- the least rate is one of the rates
+pub least-rate-fits : (t : Tree) → TreeWithin t → leastRate t ≤ greatestRate
+unfolding leastRate
+least-rate-fits t tree =
+    let one : 1 < t .n = omega (arith, tree .nodes-from) in
+    let (v, l, e, q) = leastOver-attained (link (t .n)) (t .rate) (t .n) (some-passes (link (t .n)) (t .n) 1 one (link-is (t .n) 1 (omega arith) one)) in
+    omega (arith, q, tree .rates v e)
+
+-- the memory of node i in the list of all
+pub memory-at : (f : ℕ → ℕ) (n : ℕ) (l : List ℕ) → l ≡ tab (λ i. f (suc i)) (n - 1) → (i : ℕ) → 0 < i → i < n → memoriesIn l i ≡ f i
+memory-at f n l e i p h =
+    let back : suc (i - 1) ≡ i = omega arith in
+    ap (λ (x : List ℕ). getD x (i - 1) 0) e ∙ getD-tab (λ v. f (suc v)) (n - 1) (i - 1) (omega arith) ∙ ap f back
+
+module _ (t : Tree) (tree : TreeWithin t) (sums : List ℕ) (holds : HoldsSums sums) (M : ℕ) (long : length sums ≡ M + 1) where
+  abbrev T : ℕ → ℕ
+  T = sumsIn sums
+
+  film : Film (sumsIn sums) (sumsIn sums M)
+  unfolding sumsIn lastIn
+  film =
+      let e : min M (length sums - 1) ≡ length sums - 1 = omega arith in
+      rw e (film-of sums holds)
+
+  -- ---- needs
+
+  pub need-at : (w i : ℕ) → link (t .n) i ≡ true → getD (needsOf t sums) i 0 ≡ need t M (sumsIn sums) w i
+  need-at w i h =
+      let (p, q) = link-in (t .n) i h in
+      let f : ℕ → ℕ = λ v. mostAhead (sumsIn sums) (floorRate t v) (length sums - 1) in
+      let ends : length sums - 1 ≡ M = omega arith in
+      getD-tab (perNode (t .n) f) mostNodes i (omega (arith, tree .nodes-to))
+      ∙ perNode-in (t .n) f i p q
+      ∙ rw ends (sym (need-ahead t M (sumsIn sums) tree film w i))
+
+  pub needs-right : Needs t (needsOf t sums)
+  needs-right =
+      record {
+        small = λ i h.
+            omega (
+              arith,
+              need-at 0 i h,
+              need-ahead t M (sumsIn sums) tree film 0 i,
+              most-under (sumsIn sums) (λ m. film .grows m (suc m) (omega arith)) (floorRate t i) M,
+              sum-fits sums holds M,
+            );
+        falling = λ c i p e.
+            let (a, b, q) = child-in t c i e in
+            let lower = tree .parents c (link-is (t .n) c a b) in
+            let fair = good t M (sumsIn sums) tree film in
+            let up = need-parent (question t M (sumsIn sums)) fair 0 c (a, b) (omega (arith, q)) in
+            omega (
+              arith,
+              need-at 0 c (link-is (t .n) c a b),
+              need-at 0 i (link-is (t .n) i p (omega arith)),
+              need-is t M (sumsIn sums) 0 c,
+              need-is t M (sumsIn sums) 0 i,
+              rw q at up,
+            );
+      }
+
+  -- ---- memories
+
+  pub memory-by : (w i : ℕ) → link (t .n) i ≡ true → memoryBy t (needsOf t sums) i ≡ memory t M (sumsIn sums) w i
+  unfolding memoryBy memory
+  memory-by w i h =
+      rw (
+        need-at w i h,
+        leastOver-cong (λ c. child t c i) (λ c. getD (needsOf t sums) c 0) (need t M (sumsIn sums) w) (t .n)
+            (λ c l e. let (a, b, q) = child-in t c i e in need-at w c (link-is (t .n) c a b)),
+      ) refl
+
+  pub memories-by : (w : ℕ) → tab (λ i. memoryBy t (needsOf t sums) (suc i)) (t .n - 1) ≡ tab (λ i. memory t M (sumsIn sums) w (suc i)) (t .n - 1)
+  memories-by w =
+      tab-cong (λ i. memoryBy t (needsOf t sums) (suc i)) (λ i. memory t M (sumsIn sums) w (suc i)) (t .n - 1)
+      (λ i h. memory-by w (suc i) (link-is (t .n) (suc i) (omega arith) (omega arith)))
+
+  pub total-by : (l : List ℕ) → l ≡ tab (λ i. memoryBy t (needsOf t sums) (suc i)) (t .n - 1) → total t (memoryBy t (needsOf t sums)) ≡ total t (memoriesIn l)
+  unfolding total
+  total-by l e =
+      let same : (i : ℕ) → link (t .n) i ≡ true → memoriesIn l i ≡ memoryBy t (needsOf t sums) i =
+      λ i h. let (p, q) = link-in (t .n) i h in memory-at (memoryBy t (needsOf t sums)) (t .n) l e i p q in
+      omega (
+        arith,
+        sumOver-monotone (link (t .n)) (memoryBy t (needsOf t sums)) (memoriesIn l) (t .n) (λ i h u. omega (arith, same i u)),
+        sumOver-monotone (link (t .n)) (memoriesIn l) (memoryBy t (needsOf t sums)) (t .n) (λ i h u. omega (arith, same i u)),
+      )

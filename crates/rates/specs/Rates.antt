@@ -1,0 +1,65 @@
+-- Document 01, 'Rate question' and the words of demand 3: floor rate, w, need, memories, and a delay that serves with a set of memories.
+-- A set of memories gives each node 1 to n-1 any whole number.
+use mathlib.Core.Bool.{Bool, true, cond, not, _||_}
+use mathlib.Core.Path.{_≡_}
+use Prim.Native.Nat.{ℕ, suc, _+_, _-_, _*_, _≤_}
+use lib.Dec.{eqb, ltb}
+use Rattle.base.specs.Range.{sumOver, some, first, leastOver}
+use Rattle.job.specs.Limits.{longestDelay}
+use Rattle.job.specs.Tree.{Tree, JobData, link, child, leaf, below, H}
+use Rattle.smoothing.specs.Row.{peak, greatestExcess}
+use Rattle.curves.specs.Curves.{lazySchedule}
+use Rattle.planner.specs.Rules.{Keeps}
+use Rattle.writing.specs.PutBack.{answeredJob}
+
+-- ---- what a delay and memories are worth
+
+-- a delay w serves with the memories b: some plan keeps P1 to P3 with w as every leaf's delay and those memories, and no link's peak in
+-- it passes that link's rate
+abbrev pub Serves : JobData → ℕ → (ℕ → ℕ) → Type 0
+Serves j w b =
+    let answered = answeredJob j w b in
+    (S : ℕ → ℕ → ℕ) × (Keeps answered S × ((i : ℕ) → link (j .tree .n) i ≡ true → peak (H answered) (S i) ≤ j .tree .rate i))
+
+-- node x is node i or below it
+abbrev pub atOrBelow : Tree → ℕ → ℕ → Bool
+atOrBelow t i x = eqb x i || below t x i
+
+-- the total of a set of memories, and the total of a node and those below it
+unfoldable pub total : Tree → (ℕ → ℕ) → ℕ
+total t b = sumOver (link (t .n)) b (t .n)
+
+unfoldable pub totalFrom : Tree → (ℕ → ℕ) → ℕ → ℕ
+totalFrom t b i = sumOver (atOrBelow t i) b (t .n)
+
+-- ---- the delay and the memories answered
+
+-- the floor rate of a node: the least rate among its own link and those below it
+unfoldable pub floorRate : Tree → ℕ → ℕ
+floorRate t i = leastOver (atOrBelow t i) (t .rate) (t .n)
+
+-- the least rate of all
+unfoldable pub leastRate : Tree → ℕ
+leastRate t = leastOver (link (t .n)) (t .rate) (t .n)
+
+-- a delay w is in time at rate r: T(m) ≤ r × (m + w) for each m from 0 to M
+unfoldable pub inTime : ℕ → ℕ → (ℕ → ℕ) → ℕ → Bool
+inTime r M T w = not (some (λ m. ltb (r * (m + w)) (T m)) (M + 1))
+
+-- of a film of M frames: T m is T(m)
+module _ (t : Tree) (M : ℕ) (T : ℕ → ℕ) where
+  -- w: the least delay that is in time at the least rate of all; one more than the longest delay where none up to that is
+  unfoldable pub startDelay : ℕ
+  startDelay = first (inTime (leastRate t) M T) (longestDelay + 1)
+
+  -- all leaves share the delay w, so one D is that of every node
+  abbrev pub D : ℕ → ℕ → ℕ
+  D w k = T (k - w)
+
+  -- a node's need: the greatest excess, over slots 0 to M + w, of the lazy schedule at its floor rate over D
+  unfoldable pub need : ℕ → ℕ → ℕ
+  need w i = greatestExcess (M + w) (lazySchedule (D w) (T M) (M + w) (floorRate t i)) (D w)
+
+  -- a leaf's memory is its need; an inner node's is its need less the least need of its children
+  unfoldable pub memory : ℕ → ℕ → ℕ
+  memory w i = cond (leaf t i) (need w i) (need w i - leastOver (λ c. child t c i) (need w) (t .n))

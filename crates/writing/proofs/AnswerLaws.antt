@@ -1,29 +1,28 @@
 -- Laws of an answer put back: the job that the bytes then say is the answered job, and it is accepted.
 use mathlib.Core.Bool.{Bool, true, false, cond, _&&_}
 use mathlib.Core.List.{List}
-use mathlib.Core.Path.{_≡_, refl, ap, sym, _∙_, fun-ext}
+use mathlib.Core.Path.{_≡_, refl, sym, _∙_, fun-ext}
 use mathlib.Core.Logic.{_⊎_, inl, inr, ⊎-elim}
-use Prim.Native.Nat.{ℕ, zero, suc, _+_, _-_, _*_, _^_, _≤_, _<_}
+use Prim.Native.Nat.{ℕ, _+_, _-_, _*_, _≤_, _<_}
 use native.Mathlib.Omega.{arith}
-use lib.Dec.{eqb, ltb}
+use lib.Dec.{eqb}
 use lib.ListN.{length}
-use borrow.Author.Tests.{lt-ltb, le-ltb, eq-eqb, ne-eqb, eqb-true, eqb-false}
+use borrow.Author.Tests.{lt-ltb, le-ltb, eqb-true, eqb-false}
 use Rattle.base.specs.Number.{number}
-use Rattle.base.specs.Range.{some}
 use Rattle.base.proofs.BoolLaws.{true-or-false, not-both, otherwise, lt-or-le}
 use Rattle.base.proofs.RangeLaws.{all-fail}
 use Rattle.job.specs.Limits.{fewestNodes, mostNodes, fewestFrames, mostFrames, longestDelay, greatestMemory, greatestRate, greatestFrame}
 use Rattle.job.specs.Tree.{Tree, JobData, TreeWithin, JobWithin, link, child, hasChild, leaf}
-use Rattle.job.specs.Bytes.{recordPlace, recordWidth, mark, version, nodeCount, frameCount, parentAt, delayAt, memoryAt, rateAt, frameAt, framesPlace, frameWidth, wantedLength, perNode, treeOf, jobOf}
+use Rattle.job.specs.Bytes.{recordPlace, mark, version, nodeCount, frameCount, parentAt, delayAt, memoryAt, rateAt, frameAt, framesPlace, frameWidth, wantedLength, perNode, treeOf, jobOf}
 use Rattle.job.specs.Refusal.{parentWrong, delayWrong, amountWrong, frameWrong, someNode, refusal}
 use Rattle.job.specs.Read.{sizeRefusal}
-use Rattle.job.specs.Steps.{headRefusal, nodesRefusal, restRefusal, orElse, Sized}
-use Rattle.job.proofs.TreeLaws.{link-is, link-in, link-past}
+use Rattle.job.specs.Steps.{headRefusal, nodesRefusal, Sized}
+use Rattle.job.proofs.TreeLaws.{link-is, link-in}
 use Rattle.job.proofs.SlotLaws.{leaf-link}
 use Rattle.job.proofs.ReadLaws.{record-in, perNode-in}
-use Rattle.job.proofs.RefusalLaws.{lengthRefusal, refusal-parts, accepted-sized, accepted-within, at-head, at-rest}
-use Rattle.writing.specs.PutBack.{putBack, recordPut, answeredJob}
-use Rattle.writing.proofs.WriteLaws.{Apart, recordsTo, length-records, records-apart, records-at, records-before, record-apart, record-memory, record-leaf, record-inner}
+use Rattle.job.proofs.RefusalLaws.{accepted-sized, accepted-within, at-head, at-rest}
+use Rattle.writing.specs.PutBack.{putBack, answeredJob}
+use Rattle.writing.proofs.WriteLaws.{Apart, recordsTo, length-records, records-apart, records-at, records-before, record-memory, record-leaf, record-inner}
 
 nodeCount-is : (s : List ℕ) → nodeCount s ≡ number s 5 1
 unfolding nodeCount

@@ -1,3 +1,4 @@
 pub mod AnswerLaws
+mod Examples
 pub mod PutLaws
 pub mod WriteLaws

@@ -1,7 +1,7 @@
 -- Laws of what `put_back` says: which refusal it gives and where, and what the bytes then are.
 use mathlib.Core.Bool.{Bool, true, false, cond, _&&_}
 use mathlib.Core.List.{List}
-use mathlib.Core.Path.{_≡_, refl, ap, sym, _∙_}
+use mathlib.Core.Path.{_≡_, refl, sym, _∙_}
 use Prim.Native.Nat.{ℕ, _-_, _≤_, _<_}
 use native.Mathlib.Omega.{arith}
 use lib.Dec.{eqb, ltb}
@@ -10,7 +10,7 @@ use borrow.Author.Tests.{lt-ltb, le-ltb, ltb-false, eq-eqb, ne-eqb}
 use Rattle.base.proofs.RangeLaws.{none-passes}
 use Rattle.job.specs.Limits.{longestDelay, greatestMemory}
 use Rattle.job.specs.Tree.{link}
-use Rattle.job.specs.Bytes.{nodeCount, treeOf, jobOf}
+use Rattle.job.specs.Bytes.{nodeCount, jobOf}
 use Rattle.job.specs.Refusal.{someNode, refusal}
 use Rattle.job.specs.Read.{bareTree}
 use Rattle.job.proofs.TreeLaws.{link-in}

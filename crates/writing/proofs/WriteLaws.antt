@@ -3,14 +3,15 @@ use mathlib.Core.Bool.{Bool, true, false, cond}
 use mathlib.Core.List.{List}
 use mathlib.Core.Path.{_≡_, refl, ap, sym, _∙_}
 use mathlib.Core.Logic.{_⊎_, inl, inr, ⊎-elim}
-use Prim.Native.Nat.{ℕ, zero, suc, _+_, _-_, _*_, _/_, _%_, _^_, _≤_, _<_}
+use Prim.Native.Nat.{ℕ, zero, suc, _+_, _-_, _/_, _%_, _^_, _≤_, _<_}
 use native.Mathlib.Nat.{pow-suc, add-zero, add-suc}
+use native.Mathlib.Numerals.{add-one}
 use native.Mathlib.Omega.{arith}
 use lib.ListN.{length, getD, set, length-set}
 use lib.Seq.{getD-set-same, getD-set-other, set-comm}
 use Rattle.base.specs.Number.{number}
 use Rattle.base.specs.Range.{fold}
-use Rattle.base.proofs.BoolLaws.{true-or-false, lt-or-le, last-or-below}
+use Rattle.base.proofs.BoolLaws.{true-or-false}
 use Rattle.base.proofs.NumberLaws.{number-cong}
 use Rattle.base.proofs.RangeLaws.{fold-take}
 use Rattle.job.specs.Tree.{Tree, link, leaf}
@@ -147,12 +148,6 @@ module _ (t : Tree) (w : ℕ) (b : ℕ → ℕ) (s : List ℕ) (i : ℕ) where
       number-apart delayed (recordPlace i + 3) 8 (b i) (recordPlace i + 1) 2 (inl (omega arith))
       ∙ rw e refl
 
--- what the code writes for node i, where it knows who is a leaf from a set
-pub record-is : (t : Tree) (w : ℕ) (b : ℕ → ℕ) (s p : List ℕ) (i : ℕ) (isLeaf : Bool) → p ≡ s → isLeaf ≡ leaf t i
-    → written (cond isLeaf (written p (recordPlace i + 1) 2 w) p) (recordPlace i + 3) 8 (b i) ≡ recordPut t w b s i
-unfolding recordPut
-record-is t w b s p i isLeaf e h = rw (e, h) refl
-
 -- ---- the records of the nodes below k, of n
 
 module _ (t : Tree) (w : ℕ) (b : ℕ → ℕ) (s : List ℕ) (n : ℕ) where
@@ -163,8 +158,14 @@ module _ (t : Tree) (w : ℕ) (b : ℕ → ℕ) (s : List ℕ) (n : ℕ) where
   unfolding fold link
   records-none = refl
 
-  pub records-more : (k : ℕ) → 0 < k → k < n → recordsTo (suc k) ≡ recordPut t w b (recordsTo k) k
+  records-more : (k : ℕ) → 0 < k → k < n → recordsTo (suc k) ≡ recordPut t w b (recordsTo k) k
   records-more k h l = fold-take (recordPut t w b) s (link n) k (link-is n k h l)
+
+  -- what a loop over the nodes writes for node k, where a set says who is a leaf
+  pub records-next : (p : List ℕ) (k : ℕ) (isLeaf : Bool) → 0 < k → k < n → p ≡ recordsTo k → isLeaf ≡ leaf t k
+      → written (cond isLeaf (written p (recordPlace k + 1) 2 w) p) (recordPlace k + 3) 8 (b k) ≡ recordsTo (k + 1)
+  unfolding recordPut
+  records-next p k isLeaf h l e f = rw (e, f, add-one k) (sym (records-more k h l))
 
   pub length-records : (k : ℕ) → length (recordsTo k) ≡ length s
   unfolding fold

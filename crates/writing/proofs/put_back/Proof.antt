@@ -1,6 +1,5 @@
-use mathlib.Core.Bool.{Bool, true, false}
 use mathlib.Core.Path.{_≡_, refl, ap, sym, _∙_}
-use Prim.Native.Nat.{ℕ, _-_, _≤_}
+use Prim.Native.Nat.{ℕ, _-_}
 use native.Mathlib.Omega.{arith}
 use lib.ListN.{length}
 use borrow.Author.Needs.{needs}
@@ -11,12 +10,6 @@ use Rattle.job.proofs.RefusalLaws.{Accepted, read-accepts, refusedOr-number}
 use Rattle.writing.proofs.PutLaws.{memoryWrong, put-job, put-length, put-delay, put-memory, put-done}
 use Rattle.writing.proofs.put_back.Statement.{statement}
 use Rattle.writing.proofs.put_back.Tie as tie
-use Rattle.writing.proofs.put_back.Reads as reads
-use Rattle.writing.proofs.put_back.Lts as lts
-use Rattle.job.proofs.Job.leaves.Reads as leaves-reads
-use Rattle.job.proofs.read.Reads as read-reads
-use Rattle.writing.proofs.put_records.Reads as put-records-reads
-use Rattle.writing.proofs.some_memory_wrong.Reads as some-memory-wrong-reads
 
 -- past the first test the job is accepted, and the struct holds it
 accepted : (c : tie.Else1) → Accepted (c .before .before .before .before .before .before .args .bytes .now) (c .before .before .read .result .job)
@@ -68,7 +61,7 @@ returns-3 : tie.Need-returns-3
 returns-3 c =
     let a = c .before .before .before in
     let st = a .before .before .before .before .before .before in
-    put-delay (st .args .bytes .now) (st .args .w) (st .args .memories .now) (accepted a .none) (long (c .before)) (c .if3 .taken)
+    put-delay (st .args .bytes .now) (st .args .w) (st .args .memories .now) (accepted a .none) (long (c .before)) (omega (arith, c .if3 .taken))
 
 some-memory-wrong-requires : tie.Need-some-memory-wrong-requires
 some-memory-wrong-requires c κs = (omega (arith, accepted (c .before .before .before) .tree-within .nodes-from), c .before .if2 .left)
@@ -81,7 +74,7 @@ returns-4 c =
     let b = c .before .before .before in
     let a = b .before .before in
     let st = a .before .before .before .before .before .before in
-    put-memory (st .args .bytes .now) (st .args .w) (st .args .memories .now) (accepted a .none) (long b) (c .before .before .if3 .left)
+    put-memory (st .args .bytes .now) (st .args .w) (st .args .memories .now) (accepted a .none) (long b) (omega (arith, c .before .before .if3 .left))
     (sym (wrong-is (c .before)) ∙ c .if4 .taken)
 
 leaves-requires : tie.Need-leaves-requires
@@ -105,7 +98,7 @@ returns-5 c =
     let b = f .before .before .before in
     let a = b .before .before in
     let st = a .before .before .before .before .before .before in
-    put-done (st .args .bytes .now) (st .args .w) (st .args .memories .now) (accepted a .none) (long b) (f .before .before .if3 .left)
+    put-done (st .args .bytes .now) (st .args .w) (st .args .memories .now) (accepted a .none) (long b) (omega (arith, f .before .before .if3 .left))
     (sym (wrong-is (f .before)) ∙ f .if4 .left) _ (p .put-records .ensures)
 
 pub put-back-spec : {M : Type 1} → statement M

@@ -2,9 +2,6 @@ use mathlib.Core.Path.{refl, _∙_}
 use borrow.Author.Needs.{needs}
 use Rattle.writing.proofs.put_delay.Statement.{statement}
 use Rattle.writing.proofs.put_delay.Tie as tie
-use Rattle.writing.proofs.put_delay.Reads as reads
-use Rattle.writing.proofs.put_delay.Lts as lts
-use Rattle.writing.proofs.put_number.Reads as put-number-reads
 
 put-number-requires : tie.Need-put-number-requires
 put-number-requires c κs = search needs

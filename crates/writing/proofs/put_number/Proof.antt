@@ -1,4 +1,4 @@
-use mathlib.Core.Path.{_≡_, refl, ap, sym, _∙_}
+use mathlib.Core.Path.{_≡_, _∙_}
 use Prim.Native.Nat.{_+_, _-_, _≤_}
 use native.Mathlib.Omega.{arith}
 use lib.ListN.{length, length-set}
@@ -7,9 +7,6 @@ use Rattle.writing.specs.PutBack.{written}
 use Rattle.writing.proofs.WriteLaws.{written-last}
 use Rattle.writing.proofs.put_number.Statement.{statement}
 use Rattle.writing.proofs.put_number.Tie as tie
-use Rattle.writing.proofs.put_number.Reads as reads
-use Rattle.writing.proofs.put_number.Lts as lts
-use Rattle.writing.proofs.low_byte.Reads as low-byte-reads
 
 abbrev Inv-loop : tie.InvT-loop
 Inv-loop s₀ place width x rest₀ i₀ s rest i = (i ≤ width) × ((length s ≡ length s₀) × (written s place i rest ≡ written s₀ place width x))

@@ -2,10 +2,6 @@ use mathlib.Core.Path.{refl, _∙_}
 use borrow.Author.Needs.{needs}
 use Rattle.writing.proofs.put_record.Statement.{statement}
 use Rattle.writing.proofs.put_record.Tie as tie
-use Rattle.writing.proofs.put_record.Reads as reads
-use Rattle.writing.proofs.put_record.Lts as lts
-use Rattle.writing.proofs.put_delay.Reads as put-delay-reads
-use Rattle.writing.proofs.put_number.Reads as put-number-reads
 
 sub-at : tie.Need-sub-at
 sub-at c = search needs

@@ -1,21 +1,16 @@
 use mathlib.Core.Path.{_≡_, refl, ap, sym, _∙_}
 use mathlib.Core.List.{List}
-use Prim.Native.Nat.{ℕ, _+_, _-_, _≤_, _<_}
-use native.Mathlib.Numerals.{add-one}
+use Prim.Native.Nat.{ℕ, _-_, _≤_, _<_}
 use native.Mathlib.Omega.{arith}
 use lib.ListN.{length}
 use borrow.Author.Needs.{needs}
 use Rattle.job.specs.Bytes.{nodeCount, treeOf}
 use Rattle.job.proofs.RefusalLaws.{accepted-sized}
 use Rattle.job.proofs.ReadLaws.{record-in}
-use Rattle.writing.specs.PutBack.{putBack, recordPut, memoriesIn}
-use Rattle.writing.proofs.WriteLaws.{recordsTo, records-none, record-is, records-more, length-records}
+use Rattle.writing.specs.PutBack.{putBack, memoriesIn}
+use Rattle.writing.proofs.WriteLaws.{recordsTo, records-none, records-next, length-records}
 use Rattle.writing.proofs.put_records.Statement.{statement}
 use Rattle.writing.proofs.put_records.Tie as tie
-use Rattle.writing.proofs.put_records.Reads as reads
-use Rattle.writing.proofs.put_records.Lts as lts
-use Rattle.base.proofs.member.Reads as member-reads
-use Rattle.writing.proofs.put_record.Reads as put-record-reads
 
 abbrev Inv-loop : tie.InvT-loop
 Inv-loop s₀ nodes leaves w memories i₀ s i = (0 < i) × ((i ≤ nodes) × (s ≡ recordsTo (treeOf s₀) w (memoriesIn memories) s₀ nodes i))
@@ -74,16 +69,16 @@ loop-again c =
     let l = p .before .before .before .before .before .loop in
     let st = p .before .before .before .before .before .before .before .before in
     let s = st .args .s .now in
-    let t = treeOf s in
-    let w = st .args .w in
-    let b = memoriesIn (st .args .memories .now) in
-    let n = st .args .nodes in (
+    let m = p .before .before .member in (
       omega arith,
       (
         omega arith,
         p .put-record .ensures
-            ∙ record-is t w b (recordsTo t w b s n (l .i)) (l .s) (l .i) (p .before .before .member .result) (l .inv .1 .1) (p .before .before .member .ensures ∙ st .pre .1 .1 .0 (l .i))
-            ∙ rw add-one (sym (records-more t w b s n (l .i) (l .inv .0) (omega arith))),
+            ∙ records-next (treeOf s) (st .args .w) (memoriesIn (st .args .memories .now)) s (st .args .nodes) (l .s) (l .i) (m .result)
+            (l .inv .0)
+            (omega arith)
+            (l .inv .1 .1)
+            (m .ensures ∙ st .pre .1 .1 .0 (l .i)),
       ),
     )
 

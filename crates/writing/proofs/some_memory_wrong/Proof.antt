@@ -1,7 +1,6 @@
 use mathlib.Core.Bool.{true, false, _&&_}
-use mathlib.Core.Path.{_≡_, refl, ap, sym, _∙_}
+use mathlib.Core.Path.{_≡_, refl, sym, _∙_}
 use Prim.Native.Nat.{_<_, _≤_, _-_}
-use native.Mathlib.Numerals.{add-one}
 use native.Mathlib.Omega.{arith}
 use lib.Dec.{ltb}
 use borrow.Author.Tests.{lt-ltb, le-ltb}
@@ -14,8 +13,6 @@ use Rattle.job.proofs.TreeLaws.{link-is, some-link-none, some-link-more}
 use Rattle.writing.specs.PutBack.{memoriesIn}
 use Rattle.writing.proofs.some_memory_wrong.Statement.{statement}
 use Rattle.writing.proofs.some_memory_wrong.Tie as tie
-use Rattle.writing.proofs.some_memory_wrong.Reads as reads
-use Rattle.writing.proofs.some_memory_wrong.Lts as lts
 
 abbrev Inv-loop : tie.InvT-loop
 Inv-loop memories nodes i₀ i = (0 < i) × ((i ≤ nodes) × (some (λ k. link nodes k && ltb greatestMemory (memoriesIn memories k)) i ≡ false))

@@ -1,12 +1,19 @@
 // The C interface, declared to C in include/relay.h: thin calls, each with the whole contract of the function that it calls.
 ghost use mathlib.Core.Path.{_≡_};
+ghost use mathlib.Core.Bool.{cond};
+ghost use lib.Dec.{eqb};
+ghost use Rattle.job.specs.Bytes.{jobOf};
 ghost use Rattle.job.specs.Refusal.{refusal};
 ghost use Rattle.planner.specs.Answer.{Answers};
 ghost use Rattle.planner.specs.declared.Answer as planner;
 ghost use Rattle.running.specs.Running.{start, Stepped, numberOf, linkOf};
 ghost use Rattle.running.specs.declared.Outcome as running;
-ghost use Rattle.relay_c.specs.Numbers.{memoryNumbers};
+ghost use Rattle.rates.specs.Answer.{Sizes};
+ghost use Rattle.rates.specs.declared.Sizing as rates;
+ghost use Rattle.writing.specs.PutBack.{putBack, answeredJob, memoriesIn, putBackRefusal};
+ghost use Rattle.relay_c.specs.Numbers.{memoryNumbers, rateNumbers};
 use planner::Answer;
+use rates::Sizing;
 use running::Outcome;
 use running::Running;
 
@@ -47,6 +54,43 @@ pub extern "C" fn relay_memory_question(
             total,
         },
     }
+}
+
+// What the rate question returns: document 01's number, w and the total.
+#[repr(C)]
+pub struct RateAnswer {
+    pub number: u64,
+    pub delay: u64,
+    pub total: u64,
+}
+
+// The rate question: an answer that its contract allows, by its numbers.
+#[no_mangle]
+pub extern "C" fn relay_rate_question(job: &[u8], memories: &mut [u64]) -> RateAnswer
+    ensures { λ r. ⌜ ((a : rates.Sizing) × (Sizes a (now (job .entry)) (now (memories .entry)) (now (memories .exit)) × (r ≡ rateNumbers a))) ⌝ }
+{
+    match rates::rate_question(job, memories) {
+        Sizing::Refused(number) => RateAnswer {
+            number,
+            delay: 0,
+            total: 0,
+        },
+        Sizing::Sized(delay, total) => RateAnswer {
+            number: 0,
+            delay,
+            total,
+        },
+    }
+}
+
+// An answer of the rate question put back into a job, with the contract of `writing::put_back`.
+#[no_mangle]
+pub extern "C" fn relay_put_back(job: &mut [u8], delay: u64, memories: &[u64]) -> u64
+    ensures { λ r. ⌜ r ≡ putBackRefusal (now (job .entry)) delay (now (memories .entry)) ⌝ }
+    ensures { λ r. ⌜ now (job .exit) ≡ cond (eqb r 0) (putBack (now (job .entry)) delay (memoriesIn (now (memories .entry)))) (now (job .entry)) ⌝ }
+    ensures { λ r. ⌜ (r ≡ 0 → (refusal (now (job .exit)) ≡ 0) × (jobOf (now (job .exit)) ≡ answeredJob (jobOf (now (job .entry))) delay (memoriesIn (now (memories .entry))))) ⌝ }
+{
+    writing::put_back(job, delay, memories)
 }
 
 // What a step gives: the number and the link of its outcome, and the running tree that it hands on.

@@ -38,7 +38,7 @@ pub early-lent : (s : List ℕ) (lent : ℕ) → refusal s ≡ 0 → (lent ≡ j
 unfolding earlyRefusal
 early-lent s lent h ne = rw (h, ne-eqb lent (jobOf s .tree .n - 1) ne) refl
 
-early-none : (s : List ℕ) (lent : ℕ) → refusal s ≡ 0 → lent ≡ jobOf s .tree .n - 1 → earlyRefusal s lent ≡ 0
+pub early-none : (s : List ℕ) (lent : ℕ) → refusal s ≡ 0 → lent ≡ jobOf s .tree .n - 1 → earlyRefusal s lent ≡ 0
 unfolding earlyRefusal
 early-none s lent h e = rw (h, eq-eqb lent (jobOf s .tree .n - 1) e) refl
 

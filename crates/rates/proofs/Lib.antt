@@ -7,3 +7,4 @@ pub mod NeedLaws
 pub mod WalkLaws
 pub mod WorkLaws
 pub mod AnswerLaws
+pub mod StarredLaws

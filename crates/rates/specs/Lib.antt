@@ -1,3 +1,4 @@
 pub mod Rates
 pub mod Answer
 pub mod Work
+pub mod Starred

@@ -60,6 +60,61 @@ struct relay_memory_answer relay_memory_question(
     uint64_t *peaks, size_t peaks_length);
 
 /*
+ * The answer to the rate question: 0, the delay of every leaf and the total of
+ * the memories; or the number of a refusal, and 0 twice.
+ */
+struct relay_rate_answer {
+    uint64_t number;
+    uint64_t delay;
+    uint64_t total;
+};
+
+/*
+ * Asks how long the leaves wait, and how much memory each node needs, where no
+ * link passes its rate; the job's own delays and memories are not used. Where some
+ * delay up to 4,096 serves with some memories, the number is 0, `delay` is the
+ * least that serves with any, `memories` holds those of nodes 1 to n-1 in turn,
+ * with which it serves, and `total` is their sum. No memories with which that
+ * delay serves have a lower total, nor a lower one at any node with those below it.
+ *
+ * The number is else the first refusal that applies, of 1 to 10 above and these,
+ * and `memories` is as it was:
+ *
+ *   11  `memories_length` is not n-1
+ *   13  no delay up to 4,096 serves within the rates, with any memories
+ *
+ * `job` must point to at least `job_length` readable bytes and `memories` to at
+ * least `memories_length` writable numbers, and the two may not overlap. Nothing is
+ * kept.
+ */
+struct relay_rate_answer relay_rate_question(
+    const uint8_t *job, size_t job_length,
+    uint64_t *memories, size_t memories_length);
+
+/*
+ * Puts an answer back: writes `delay` into the job as the delay of every leaf and
+ * `memories` as those of nodes 1 to n-1 in turn, and leaves every other byte as it
+ * was. The number is 0, and the bytes are a job again. What the rate question gave
+ * for the job, put back, is answered by the memory question with 0 and a plan in
+ * which no link's peak passes its rate.
+ *
+ * The number is else the first refusal that applies, of 1 to 10 above, of the bytes
+ * as they are, and then these, and the bytes are as they were:
+ *
+ *   11  `memories_length` is not n-1
+ *    8  `delay` is above 4,096
+ *    9  one of `memories` is above 1,099,511,627,775
+ *
+ * `job` must point to at least `job_length` writable bytes and `memories` to at
+ * least `memories_length` readable numbers, and the two may not overlap. Nothing is
+ * kept.
+ */
+uint64_t relay_put_back(
+    uint8_t *job, size_t job_length,
+    uint64_t delay,
+    const uint64_t *memories, size_t memories_length);
+
+/*
  * A running tree: the slot number, and at place i what the link into node i has
  * carried by the end of that slot. Places 0 and n to 63 have no link; steps keep
  * what stands there.

@@ -70,6 +70,90 @@ static void memory_question(void)
     expect_all("short plan, peaks", tree_q_peaks, peaks, 3);
 }
 
+/* The rate question on Tree Q, then with too few memories and with rate 0. */
+static void rate_question(void)
+{
+    static const uint64_t due[3] = { 6, 0, 6 };
+    static const uint64_t untouched[3] = { 91, 92, 93 };
+    uint8_t stopped[sizeof tree_q];
+    uint64_t memories[3] = { 91, 92, 93 };
+    struct relay_rate_answer answer;
+
+    answer = relay_rate_question(tree_q, sizeof tree_q, memories, 2);
+    expect("few memories, number", 11, answer.number);
+    expect("few memories, delay", 0, answer.delay);
+    expect("few memories, total", 0, answer.total);
+    expect_all("few memories", untouched, memories, 3);
+
+    memcpy(stopped, tree_q, sizeof stopped);
+    stopped[28] = 0; /* The rate of node 1. */
+    answer = relay_rate_question(stopped, sizeof stopped, memories, 3);
+    expect("rate 0, number", 13, answer.number);
+    expect("rate 0, delay", 0, answer.delay);
+    expect("rate 0, total", 0, answer.total);
+    expect_all("rate 0, memories", untouched, memories, 3);
+
+    answer = relay_rate_question(tree_q, sizeof tree_q, memories, 3);
+    expect("rates of Tree Q, number", 0, answer.number);
+    expect("rates of Tree Q, delay", 2, answer.delay);
+    expect("rates of Tree Q, total", 12, answer.total);
+    expect_all("rates of Tree Q, memories", due, memories, 3);
+}
+
+static void expect_bytes(const char *name, const uint8_t *expected,
+                         const uint8_t *got, size_t length)
+{
+    size_t i;
+
+    for (i = 0; i < length; i++) {
+        expect(name, expected[i], got[i]);
+    }
+}
+
+/* Answers that are refused, then that of the rate question put back into Tree Q:
+   the peaks of the plan are within the rates 5, 10, 4. */
+static void put_back(void)
+{
+    static const uint64_t plan_due[18] = {
+        0, 2, 6, 10, 14, 15,
+        0, 0, 0, 4, 14, 15,
+        0, 2, 6, 10, 14, 15
+    };
+    static const uint64_t peaks_due[3] = { 4, 10, 4 };
+    uint64_t memories[4] = { 6, 0, 6, 7 };
+    uint64_t plan[18];
+    uint64_t peaks[3];
+    uint8_t job[sizeof tree_q];
+    uint8_t due[sizeof tree_q];
+    struct relay_memory_answer answer;
+
+    memcpy(job, tree_q, sizeof job);
+    expect("put back, short job", 1, relay_put_back(job, 9, 4097, memories, 4));
+    expect("put back, many memories", 11,
+           relay_put_back(job, sizeof job, 4097, memories, 4));
+    memories[2] = 1099511627776;
+    expect("put back, long delay", 8,
+           relay_put_back(job, sizeof job, 4097, memories, 3));
+    expect("put back, large memory", 9,
+           relay_put_back(job, sizeof job, 4096, memories, 3));
+    expect_bytes("put back, refused", tree_q, job, sizeof job);
+
+    memories[2] = 6;
+    memcpy(due, tree_q, sizeof due);
+    due[20] = 6; /* Memory of node 1, delays of nodes 2 and 3. */
+    due[31] = 2;
+    due[50] = 2;
+    expect("put back", 0, relay_put_back(job, sizeof job, 2, memories, 3));
+    expect_bytes("put back, bytes", due, job, sizeof job);
+
+    answer = relay_memory_question(job, sizeof job, plan, 18, peaks, 3);
+    expect("put back, number", 0, answer.number);
+    expect("put back, last slot", 5, answer.last_slot);
+    expect("put back, total", 15, answer.total);
+    expect_all("put back, plan", plan_due, plan, 18);
+    expect_all("put back, peaks", peaks_due, peaks, 3);
+}
+
 /* A step that was not taken: the tree and the rows are as before. */
 static void expect_kept(const char *name, const struct relay_running *before,
                         const struct relay_step_answer *answer,
@@ -173,6 +257,8 @@ int main(void)
     expect("Tree Q", 0, relay_refusal(tree_q, sizeof tree_q));
     expect("wrong mark", 2, relay_refusal(wrong_mark, sizeof wrong_mark));
     memory_question();
+    rate_question();
+    put_back();
     run_to_the_end();
     refused_steps();
 

@@ -77,7 +77,7 @@ pub struct Asked {
 }
 
 /// What differs, the number expected and that got.
-type Problem = (String, u64, u64);
+pub type Problem = (String, u64, u64);
 
 impl Asked {
     pub fn new() -> Self {
@@ -217,7 +217,8 @@ fn mismatch((what, expected, got): Problem, bytes: Vec<u8>) -> Mismatch {
     }
 }
 
-fn equal(what: &str, expected: u64, got: u64) -> Result<(), Problem> {
+/// Whether `got` is what is expected.
+pub fn equal(what: &str, expected: u64, got: u64) -> Result<(), Problem> {
     if expected == got {
         return Ok(());
     }
@@ -226,7 +227,7 @@ fn equal(what: &str, expected: u64, got: u64) -> Result<(), Problem> {
 
 /// Asks the library. Guards, the job's bytes and, on a refusal, the lent words
 /// must be as they were. The words and the alignment differ from round to round.
-fn ask(
+pub fn ask(
     bytes: &[u8],
     plan: usize,
     peaks: usize,
@@ -287,7 +288,7 @@ fn filled(answer: &Answer, plan: &[u64], peaks: &[u64]) -> Result<(), Problem> {
 }
 
 /// Whether the plan keeps P1 to P3.
-fn kept(job: &Job, plan: &[u64]) -> Result<(), Problem> {
+pub fn kept(job: &Job, plan: &[u64]) -> Result<(), Problem> {
     let slots = plan.len() / job.records.len();
     match Rules::new(job).broken(slots, |i, slot| plan[i * slots + slot]) {
         None => Ok(()),

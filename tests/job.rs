@@ -67,6 +67,30 @@ impl Job {
         HEADER_BYTES + RECORD_BYTES * self.records.len() + FRAME_BYTES * self.frames.len()
     }
 
+    /// The job that `bytes` hold, which have its form.
+    pub fn decode(bytes: &[u8]) -> Self {
+        fn number(bytes: &[u8]) -> u64 {
+            bytes
+                .iter()
+                .fold(0, |all, &byte| all << 8 | u64::from(byte))
+        }
+        let (records, frames) =
+            bytes[HEADER_BYTES..].split_at(RECORD_BYTES * (usize::from(bytes[5]) - 1));
+        let record = |bytes: &[u8]| Record {
+            parent: bytes[0],
+            delay: number(&bytes[1..3]) as u16,
+            memory: number(&bytes[3..11]),
+            rate: number(&bytes[11..19]),
+        };
+        Job::new(
+            records.chunks(RECORD_BYTES).map(record).collect(),
+            frames
+                .chunks(FRAME_BYTES)
+                .map(|frame| number(frame) as u32)
+                .collect(),
+        )
+    }
+
     pub fn encode(&self) -> Vec<u8> {
         let mut bytes = Vec::with_capacity(self.length());
         bytes.extend(self.mark);

@@ -11,6 +11,14 @@ pub struct MemoryAnswer {
     pub total: u64,
 }
 
+#[repr(C)]
+#[derive(Clone, Copy, PartialEq, Eq)]
+pub struct RateAnswer {
+    pub number: u64,
+    pub delay: u64,
+    pub total: u64,
+}
+
 /// Places of a running tree.
 pub const PLACES: usize = 64;
 
@@ -40,6 +48,21 @@ extern "C" {
         peaks: *mut u64,
         peaks_length: usize,
     ) -> MemoryAnswer;
+
+    fn relay_rate_question(
+        job: *const u8,
+        job_length: usize,
+        memories: *mut u64,
+        memories_length: usize,
+    ) -> RateAnswer;
+
+    fn relay_put_back(
+        job: *mut u8,
+        job_length: usize,
+        delay: u64,
+        memories: *const u64,
+        memories_length: usize,
+    ) -> u64;
 
     fn relay_start() -> Running;
 
@@ -86,6 +109,28 @@ pub fn memory_question(job: Part<u8>, plan: Part<u64>, peaks: Part<u64>) -> Memo
     // SAFETY: each part lies within its buffer, and the buffers do not overlap,
     // as each is lent mutably for the whole call.
     unsafe { relay_memory_question(job, job_length, plan, plan_length, peaks, peaks_length) }
+}
+
+/// The library's answer to the rate question.
+///
+/// The job is lent mutably, so that a write by the library, which would be a fault,
+/// can be seen by the caller.
+pub fn rate_question(job: Part<u8>, memories: Part<u64>) -> RateAnswer {
+    let (job, job_length) = lend(job);
+    let (memories, memories_length) = lend(memories);
+    // SAFETY: each part lies within its buffer, and the buffers do not overlap,
+    // as each is lent mutably for the whole call.
+    unsafe { relay_rate_question(job, job_length, memories, memories_length) }
+}
+
+/// An answer put back into the job by the library. The memories are lent mutably
+/// for the same reason.
+pub fn put_back(job: Part<u8>, delay: u64, memories: Part<u64>) -> u64 {
+    let (job, job_length) = lend(job);
+    let (memories, memories_length) = lend(memories);
+    // SAFETY: each part lies within its buffer, and the buffers do not overlap,
+    // as each is lent mutably for the whole call.
+    unsafe { relay_put_back(job, job_length, delay, memories, memories_length) }
 }
 
 /// The library's first running tree.

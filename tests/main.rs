@@ -1,8 +1,9 @@
 //! Holds the static library against independent implementations.
 //!
-//! Arguments, all optional: the number of random strings, the seed, the number of
-//! random jobs for the memory question and the number of random steps of a running
-//! tree, decimal or hexadecimal after `0x`.
+//! Arguments, all optional: the number of random strings, the seed, and the numbers
+//! of random jobs for the memory question, random steps of a running tree, random
+//! jobs for the rate question and random answers put back, decimal or hexadecimal
+//! after `0x`.
 
 #![deny(unsafe_code)]
 
@@ -14,10 +15,14 @@ mod edges;
 mod faults;
 mod garbage;
 mod job;
+mod lazy;
 mod lending;
 #[allow(unsafe_code)]
 mod library;
 mod planning;
+mod putting;
+mod rated;
+mod rating;
 mod reader;
 mod reading;
 mod relax;
@@ -25,18 +30,25 @@ mod rng;
 mod rules;
 mod running;
 mod shapes;
+mod sizes_brute;
+mod sizing;
 mod stepping;
 mod trees;
+mod writer;
 
 use std::process::ExitCode;
 
 use asking::Asked;
 use compare::Tally;
+use putting::Puts;
+use sizing::Rated;
 use stepping::Steps;
 
 const RANDOM_STRINGS: u64 = 127_000;
 const RANDOM_JOBS: u64 = 90_000;
 const RANDOM_STEPS: u64 = 60_000;
+const RANDOM_RATES: u64 = 70_000;
+const RANDOM_PUTS: u64 = 20_000;
 const SEED: u64 = 0x5245_4C41_5900_0001;
 
 fn number(text: &str) -> Option<u64> {
@@ -46,10 +58,16 @@ fn number(text: &str) -> Option<u64> {
     }
 }
 
-/// The number of random strings, the seed, and the numbers of random jobs and of
-/// random steps.
-fn arguments() -> Option<[u64; 4]> {
-    let mut all = [RANDOM_STRINGS, SEED, RANDOM_JOBS, RANDOM_STEPS];
+/// What is asked for, in the order of the arguments.
+fn arguments() -> Option<[u64; 6]> {
+    let mut all = [
+        RANDOM_STRINGS,
+        SEED,
+        RANDOM_JOBS,
+        RANDOM_STEPS,
+        RANDOM_RATES,
+        RANDOM_PUTS,
+    ];
     for (i, text) in std::env::args().skip(1).enumerate() {
         *all.get_mut(i)? = number(&text)?;
     }
@@ -57,20 +75,37 @@ fn arguments() -> Option<[u64; 4]> {
 }
 
 fn main() -> ExitCode {
-    let Some([strings, seed, jobs, random_steps]) = arguments() else {
-        eprintln!("usage: harness [random strings [seed [random jobs [random steps]]]]");
+    let Some([strings, seed, jobs, random_steps, rates, random_puts]) = arguments()
+    else {
+        eprintln!(
+            "usage: harness [random strings [seed [random jobs [random steps \
+             [random rate jobs [random answers put back]]]]]]"
+        );
         return ExitCode::from(2);
     };
     let mut tally = Tally::new();
     let mut asked = Asked::new();
     let mut steps = Steps::new();
-    let read = reading::run(strings, seed, &mut tally);
-    let planned = planning::run(jobs, seed, &mut asked);
-    let stepped = running::run(random_steps, seed, &mut steps);
-    let failed = u8::from(!read) + u8::from(!planned) + u8::from(!stepped);
+    let mut rated = Rated::new();
+    let mut puts = Puts::new();
+    let all_well = [
+        reading::run(strings, seed, &mut tally),
+        planning::run(jobs, seed, &mut asked),
+        running::run(random_steps, seed, &mut steps),
+        rating::run(rates, seed, &mut rated),
+        putting::run(random_puts, seed, &mut puts),
+    ];
+    let failed = all_well.iter().filter(|&&well| !well).count();
+    let passed = [
+        tally.strings,
+        asked.jobs,
+        steps.counts.steps,
+        rated.jobs,
+        puts.jobs,
+    ];
     println!(
         "harness: {} passed, {failed} failed",
-        tally.strings + asked.jobs + steps.counts.steps
+        passed.iter().sum::<u64>()
     );
     ExitCode::from(u8::from(failed > 0))
 }

@@ -1,0 +1,347 @@
+//! Jobs for the rate question. Their delays and memories, which it doesn't use, are
+//! drawn from all that is allowed.
+
+use crate::edges::example_jobs;
+use crate::faults::with_faults;
+use crate::job::{
+    Job, Record, GREATEST_AMOUNT, GREATEST_DELAY, GREATEST_FRAME, MOST_FRAMES, MOST_NODES,
+};
+use crate::lazy;
+use crate::rng::Rng;
+use crate::shapes::{Shape, SHAPES};
+use crate::sizing::Case;
+
+/// A job with these parents, rates and frames.
+fn made(parents: &[u8], rates: &[u64], frames: Vec<u32>, rng: &mut Rng) -> Job {
+    let records = parents.iter().zip(rates).map(|(&parent, &rate)| Record {
+        parent,
+        delay: 0,
+        memory: rng.up_to(GREATEST_AMOUNT),
+        rate,
+    });
+    let mut job = Job::new(records.collect(), frames);
+    for leaf in job.nodes(false) {
+        job.record(leaf).delay = rng.up_to(u64::from(GREATEST_DELAY)) as u16;
+    }
+    job
+}
+
+fn any_parents(nodes: usize, rng: &mut Rng) -> Vec<u8> {
+    rng.pick(&SHAPES).parents(nodes, rng)
+}
+
+/// The document's examples; the independent sizes must be the document's.
+pub fn examples(_: &mut Rng) -> Vec<Case> {
+    let q = Some((2, 12, vec![6, 0, 6]));
+    let due = [
+        q.clone(),
+        q.clone(),
+        q.clone(),
+        q.clone(),
+        q,
+        Some((4_096, 4_096, vec![4_096])),
+        None,
+        Some((0, 0, vec![0, 0, 0])),
+        None,
+    ];
+    let jobs = example_jobs();
+    for (job, due) in jobs.iter().zip(due) {
+        let got = lazy::sizes(job).map(|sizes| (sizes.delay, sizes.total, sizes.memories));
+        assert!(got == due, "the independent sizes against the document");
+    }
+    jobs.into_iter().map(Case::job).collect()
+}
+
+/// Each list of `length` numbers up to `most`.
+fn lists(length: usize, most: u64) -> Vec<Vec<u64>> {
+    let mut all = vec![Vec::new()];
+    for _ in 0..length {
+        let longer = |list: Vec<u64>| (0..=most).map(move |number| [&list[..], &[number]].concat());
+        all = all.into_iter().flat_map(longer).collect();
+    }
+    all
+}
+
+/// Each tree of up to 4 nodes with each film and each rates of small numbers.
+pub fn every_tiny(rng: &mut Rng) -> Vec<Case> {
+    let trees: [&[u8]; 9] = [
+        &[0],
+        &[0, 0],
+        &[0, 1],
+        &[0, 0, 0],
+        &[0, 0, 1],
+        &[0, 0, 2],
+        &[0, 1, 0],
+        &[0, 1, 1],
+        &[0, 1, 2],
+    ];
+    let mut cases = Vec::new();
+    for parents in trees {
+        let links = parents.len();
+        // Up to 3 frames on few nodes, up to 2 on more.
+        for length in 1..=if links < 3 { 3 } else { 2 } {
+            for film in lists(length, 2) {
+                for rates in lists(links, 3) {
+                    let frames = film.iter().map(|&frame| frame as u32).collect();
+                    cases.push(Case::job(made(parents, &rates, frames, rng)));
+                }
+            }
+        }
+    }
+    cases
+}
+
+/// Random jobs small enough for the brute-force search.
+pub fn tiny(_: u64, rng: &mut Rng) -> Case {
+    let (nodes, most) = rng.pick(&[(2, 20), (3, 9), (3, 12), (4, 5), (4, 5), (4, 6), (5, 3)]);
+    let parents = match nodes {
+        4 => rng
+            .pick(&[[0, 1, 1], [0, 1, 1], [0, 1, 2], [0, 0, 1]])
+            .to_vec(),
+        _ => any_parents(nodes, rng),
+    };
+    let total = rng.within(most / 2..=most);
+    let mut left = total;
+    let mut frames = Vec::new();
+    for _ in 0..rng.within(2..=4) {
+        let frame = rng.within(0..=left);
+        frames.push(frame as u32);
+        left -= frame;
+    }
+    let least = u64::from(!rng.one_in(24));
+    let rates: Vec<u64> = parents
+        .iter()
+        .map(|_| rng.within(least..=1 + total / 2))
+        .collect();
+    Case::job(made(&parents, &rates, frames, rng))
+}
+
+/// Random jobs of a few nodes and slots, most of them with a short delay.
+pub fn small(_: u64, rng: &mut Rng) -> Case {
+    Case::job(small_job(rng))
+}
+
+pub fn small_job(rng: &mut Rng) -> Job {
+    let nodes = rng.within(2..=12) as usize;
+    let parents = any_parents(nodes, rng);
+    let count = rng.within(1..=16) as usize;
+    let most = rng.pick(&[3, 12, 1_000, u64::from(GREATEST_FRAME)]);
+    let frames: Vec<u32> = (0..count).map(|_| rng.within(0..=most) as u32).collect();
+    let total: u64 = frames.iter().map(|&frame| u64::from(frame)).sum();
+    let mean = total / count as u64;
+    let (low, high) = rng.pick(&[(mean / 2, 3 * mean), (mean, 2 * mean), (mean / 4, mean)]);
+    let mut rates: Vec<u64> = parents.iter().map(|_| rng.within(low..=high + 1)).collect();
+    match rng.below(40) {
+        0 => rates[rng.index(nodes - 1)] = 0,
+        1 => rates[rng.index(nodes - 1)] = GREATEST_AMOUNT,
+        2 => rates.fill_with(|| rng.up_to(GREATEST_AMOUNT)),
+        3 => rates.fill(high),
+        // Small in the low bits alone.
+        4 | 5 => {
+            let bit = rng.within(16..=39);
+            let low = (1 << bit) + low / 2;
+            rates[rng.index(nodes - 1)] = low;
+        }
+        _ => {}
+    }
+    made(&parents, &rates, frames, rng)
+}
+
+/// Jobs whose least delay is known: up to frame m the film fits the least rate with
+/// nothing to spare, or with one byte too many. Delays are short ones, or those at
+/// the limit for every `often`-th case.
+pub fn borderline(i: u64, rng: &mut Rng) -> Case {
+    let often = 4;
+    let nodes = rng.within(2..=6) as usize;
+    let parents = any_parents(nodes, rng);
+    let count = rng.within(1..=8);
+    let delay = match i % often {
+        0 => rng.pick(&[4_095, 4_096, 4_097]),
+        _ => rng.below(12),
+    };
+    // So that one frame may have all that is due by then.
+    let most = u64::from(GREATEST_FRAME) / (count + delay + 1);
+    let highest = rng.pick(&[3, 100, most]).min(most);
+    let least = rng.within(1..=highest);
+    let tight = 1 + rng.below(count);
+    let over = u64::from(rng.one_in(2));
+    let mut sum = 0;
+    let mut frames = Vec::new();
+    for m in 1..=count {
+        let frame = match m == tight {
+            true => least * (m + delay) + over - sum,
+            false => rng.up_to(least),
+        };
+        sum += frame;
+        frames.push(frame as u32);
+    }
+    let top = rng.pick(&[least, 2 * least, GREATEST_AMOUNT]);
+    let mut rates: Vec<u64> = parents.iter().map(|_| rng.within(least..=top)).collect();
+    rates[rng.index(nodes - 1)] = least;
+    Case::known(made(&parents, &rates, frames, rng), delay + over)
+}
+
+/// Bytes with one fault or two of 1 to 10, and memories of any length.
+pub fn faulty(i: u64, rng: &mut Rng) -> Case {
+    let job = small_job(rng);
+    let links = job.records.len();
+    // Twice as many of 1, as its short strings repeat.
+    let first = 1 + i % 11 % 10;
+    let mut numbers = vec![first];
+    if first < 10 && rng.one_in(2) {
+        numbers.push(rng.within(first + 1..=10));
+    }
+    let bytes = with_faults(job, &numbers, rng);
+    let length = if rng.one_in(2) {
+        links
+    } else {
+        rng.index(2 * MOST_NODES)
+    };
+    Case::broken(bytes, length, first)
+}
+
+/// Jobs, with a delay or not, and memories one short, one over, none or more.
+pub fn wrong_length(i: u64, rng: &mut Rng) -> Case {
+    let mut job = small_job(rng);
+    if rng.one_in(4) {
+        job.records[0].rate = 0;
+    }
+    let links = job.records.len();
+    let lengths = [links - 1, links + 1, 0, links + 2 + rng.index(64)];
+    Case::lent(job, lengths[i as usize % 4])
+}
+
+/// Rates of 0 and at the limit, frames of 0 and at the limit, on each shape and for
+/// several sizes.
+pub fn extremes(rng: &mut Rng) -> Vec<Case> {
+    let mut cases = Vec::new();
+    let limit = GREATEST_FRAME;
+    for shape in SHAPES {
+        for (nodes, count) in [(2, 1), (3, 4), (8, 6), (20, 5), (MOST_NODES, 4)] {
+            let parents = shape.parents(nodes, rng);
+            for frame in [0, 1, limit] {
+                for rate in [
+                    0,
+                    1,
+                    u64::from(limit) - 1,
+                    u64::from(limit),
+                    GREATEST_AMOUNT,
+                ] {
+                    let rates = vec![rate; nodes - 1];
+                    let frames = vec![frame; count];
+                    cases.push(Case::job(made(&parents, &rates, frames, rng)));
+                }
+            }
+            cases.extend(one_stopped(&parents, count, rng));
+            cases.extend(longest_delay(&parents, rng));
+        }
+    }
+    cases
+}
+
+/// All rates at the limit but one, which is 0: any frame above 0 is too much.
+fn one_stopped(parents: &[u8], count: usize, rng: &mut Rng) -> Vec<Case> {
+    let mut cases = Vec::new();
+    let last = parents.len() - 1;
+    for link in [0, last / 2, last] {
+        let mut rates = vec![GREATEST_AMOUNT; parents.len()];
+        rates[link] = 0;
+        let mut frames = vec![0; count];
+        cases.push(Case::known(made(parents, &rates, frames.clone(), rng), 0));
+        frames[rng.index(count)] = 1;
+        cases.push(Case::known(made(parents, &rates, frames, rng), u64::MAX));
+    }
+    cases
+}
+
+/// One frame at the limit is 4,095 × 4,097: at rate 4,095 the delay is 4,096. The
+/// film at the limit of rate 1 and one byte more.
+fn longest_delay(parents: &[u8], rng: &mut Rng) -> Vec<Case> {
+    let mut cases = Vec::new();
+    for (frame, least, delay) in [
+        (GREATEST_FRAME, 4_096, 4_095),
+        (GREATEST_FRAME, 4_095, 4_096),
+        (GREATEST_FRAME, 4_094, 4_098),
+        (4_096, 1, 4_095),
+        (4_097, 1, 4_096),
+        (4_098, 1, 4_097),
+    ] {
+        let mut rates = vec![least + 1; parents.len()];
+        rates[rng.index(parents.len())] = least;
+        let job = made(parents, &rates, vec![frame], rng);
+        cases.push(Case::known(job, delay));
+    }
+    cases
+}
+
+/// Trees of the most nodes, of each shape, with rates that differ.
+pub fn most_nodes(rng: &mut Rng) -> Vec<Case> {
+    let mut cases = Vec::new();
+    for shape in SHAPES {
+        for most in [50, 1_000, u64::from(GREATEST_FRAME)] {
+            let parents = shape.parents(MOST_NODES, rng);
+            let frames = (0..20).map(|_| rng.within(0..=most) as u32).collect();
+            let rates = differing(most / 2, MOST_NODES - 1, rng);
+            cases.push(Case::job(made(&parents, &rates, frames, rng)).asked());
+        }
+    }
+    cases
+}
+
+/// Rates from `least` to about three times as much, no two the same, in any order.
+fn differing(least: u64, links: usize, rng: &mut Rng) -> Vec<u64> {
+    let step = least / 31 + 1;
+    let mut rates: Vec<u64> = (0..links as u64).map(|i| least + i * step).collect();
+    for i in (1..links).rev() {
+        rates.swap(i, rng.index(i + 1));
+    }
+    rates
+}
+
+/// The most frames, of each shape on the most nodes: random films, all frames 0 at
+/// rate 0, and all at the limit with the delay at its limit and one past it. Three
+/// plans are asked for.
+pub fn most_frames(rng: &mut Rng) -> Vec<Case> {
+    let mut cases = Vec::new();
+    for (i, shape) in SHAPES.into_iter().enumerate() {
+        let parents = shape.parents(MOST_NODES, rng);
+        let links = MOST_NODES - 1;
+        let most = u64::from(GREATEST_FRAME);
+        let film: Vec<u32> = (0..MOST_FRAMES)
+            .map(|_| rng.within(0..=most) as u32)
+            .collect();
+        let total: u64 = film.iter().map(|&frame| u64::from(frame)).sum();
+        let rates = differing(total / MOST_FRAMES as u64, links, rng);
+        let case = Case::job(made(&parents, &rates, film.clone(), rng));
+        cases.push(if i % 3 == 0 { case.asked() } else { case });
+
+        let zeros = vec![0; MOST_FRAMES];
+        cases.push(Case::known(made(&parents, &vec![0; links], zeros, rng), 0));
+        let rates = vec![GREATEST_AMOUNT; links];
+        cases.push(Case::known(made(&parents, &rates, film, rng), 0));
+        // 16,777,215 × 65,536 is 15,790,320 × (65,536 + 4,096).
+        for (least, delay) in [(15_790_320, 4_096), (15_790_319, 4_097)] {
+            let mut rates = differing(least + 1, links, rng);
+            rates[rng.index(links)] = least;
+            let frames = vec![GREATEST_FRAME; MOST_FRAMES];
+            let case = Case::known(made(&parents, &rates, frames, rng), delay);
+            cases.push(if i == 5 { case.asked() } else { case });
+        }
+    }
+    cases.extend(few_links(rng));
+    cases
+}
+
+/// The most frames on few nodes, memories one short and one over.
+fn few_links(rng: &mut Rng) -> Vec<Case> {
+    let mut cases = Vec::new();
+    for shape in [Shape::Chain, Shape::Binary] {
+        let parents = shape.parents(4, rng);
+        let film: Vec<u32> = (0..MOST_FRAMES).map(|_| rng.below(1_000) as u32).collect();
+        let job = made(&parents, &[520, 510, 505], film, rng);
+        cases.push(Case::lent(job.clone(), 2));
+        cases.push(Case::lent(job.clone(), 4));
+        cases.push(Case::job(job).asked());
+    }
+    cases
+}

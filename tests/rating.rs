@@ -1,0 +1,141 @@
+//! The rate question: the library against the brute-force search and the
+//! independent implementation.
+
+use crate::compare::Mismatch;
+use crate::rated;
+use crate::rng::Rng;
+use crate::sizing::{Case, Rated};
+
+/// Least count of jobs in a run, of jobs for each number, of jobs searched by brute
+/// force, of answers with the longest delay, and of answers in which an inner node
+/// has a memory among every 100.
+const LEAST_JOBS: u64 = 50_000;
+const LEAST_PER_NUMBER: u64 = 1_000;
+const LEAST_SEARCHED: u64 = 10_000;
+const LEAST_LONGEST: u64 = 500;
+const LEAST_INNER: u64 = 30;
+
+/// The number that the rate question doesn't have.
+const NO_NUMBER: usize = 12;
+
+/// A sort of case whose number of jobs is fixed.
+type Fixed = (&'static str, fn(&mut Rng) -> Vec<Case>);
+
+const FIXED: [Fixed; 5] = [
+    ("examples", rated::examples),
+    ("every tiny job", rated::every_tiny),
+    ("extremes", rated::extremes),
+    ("64 nodes", rated::most_nodes),
+    ("65,536 frames", rated::most_frames),
+];
+
+/// A sort of case with its share of every 1,000 random jobs. It is given the
+/// number of the case.
+type Random = (&'static str, u64, fn(u64, &mut Rng) -> Case);
+
+const RANDOM: [Random; 5] = [
+    ("tiny", 60, rated::tiny),
+    ("small", 640, rated::small),
+    ("borderline", 80, rated::borderline),
+    ("faults", 190, rated::faulty),
+    ("wrong lengths", 30, rated::wrong_length),
+];
+
+/// Compares all cases, `random` of them random, and says whether all is well.
+pub fn run(random: u64, seed: u64, rated: &mut Rated) -> bool {
+    println!("rate question: seed {seed:#018x}, random jobs asked for {random}");
+    println!(
+        "{:<22}{:>20}{:>10}{:>10}",
+        "kind", "seed", "jobs", "repeated"
+    );
+    if let Err(mismatch) = compare_all(random, seed, rated) {
+        println!("{mismatch}");
+        return false;
+    }
+    report(rated);
+    met_enough(rated)
+}
+
+fn compare_all(random: u64, seed: u64, rated: &mut Rated) -> Result<(), Mismatch> {
+    // Streams of their own, apart from those of the other tests.
+    let mut seeds = (3_000..).map(|index| Rng::stream_seed(seed, index));
+    for ((name, make), seed) in FIXED.into_iter().zip(&mut seeds) {
+        let cases = make(&mut Rng::new(seed));
+        compare_kind(name, seed, cases.into_iter(), rated)?;
+    }
+    for ((name, share, make), seed) in RANDOM.into_iter().zip(&mut seeds) {
+        let count = random * share / 1_000;
+        let mut rng = Rng::new(seed);
+        compare_kind(name, seed, (0..count).map(|i| make(i, &mut rng)), rated)?;
+    }
+    Ok(())
+}
+
+/// Compares the cases of one kind and prints its line.
+fn compare_kind(
+    name: &str,
+    seed: u64,
+    cases: impl Iterator<Item = Case>,
+    rated: &mut Rated,
+) -> Result<(), Mismatch> {
+    let (mut jobs, mut repeated) = (0, 0);
+    for case in cases {
+        match rated.compare(case) {
+            Ok(true) => jobs += 1,
+            Ok(false) => repeated += 1,
+            Err(mismatch) => {
+                println!(
+                    "mismatch in kind \"{name}\", seed {seed:#018x}, case {}",
+                    jobs + repeated
+                );
+                return Err(mismatch);
+            }
+        }
+    }
+    println!("{name:<22}{seed:>#20x}{jobs:>10}{repeated:>10}");
+    Ok(())
+}
+
+fn report(rated: &Rated) {
+    println!("{:>6}{:>10}", "number", "jobs");
+    for (number, count) in rated.numbers.iter().enumerate() {
+        if number != NO_NUMBER {
+            println!("{number:>6}{count:>10}");
+        }
+    }
+    println!(
+        "searched by brute force: {}, of which {} have a delay",
+        rated.searched, rated.served
+    );
+    println!(
+        "answers with a memory at an inner node: {}, with delay 4,096: {}",
+        rated.inner, rated.longest
+    );
+    println!(
+        "number and delay known by construction: {}; answers put back: {}, and asked \
+         about: {}",
+        rated.known, rated.put, rated.asked
+    );
+}
+
+/// Whether jobs enough were met, of each number too; says what is missing.
+fn met_enough(rated: &Rated) -> bool {
+    let mut enough = true;
+    let mut least = |what: &str, count: u64, wanted: u64| {
+        if count < wanted {
+            println!("{what}: {count}, at least {wanted} wanted");
+            enough = false;
+        }
+    };
+    least("jobs of the rate question", rated.jobs, LEAST_JOBS);
+    for (number, &count) in rated.numbers.iter().enumerate() {
+        if number != NO_NUMBER {
+            least(&format!("number {number}"), count, LEAST_PER_NUMBER);
+        }
+    }
+    least("searched by brute force", rated.searched, LEAST_SEARCHED);
+    least("answers with delay 4,096", rated.longest, LEAST_LONGEST);
+    let inner = rated.numbers[0] * LEAST_INNER / 100;
+    least("answers with a memory at an inner node", rated.inner, inner);
+    enough
+}

@@ -2,8 +2,8 @@
 //!
 //! Arguments, all optional: the number of random strings, the seed, and the numbers
 //! of random jobs for the memory question, random steps of a running tree, random
-//! jobs for the rate question and random answers put back, decimal or hexadecimal
-//! after `0x`.
+//! jobs for the rate question, random answers put back and random jobs for the
+//! program, decimal or hexadecimal after `0x`. With 0 the program is left out.
 
 #![deny(unsafe_code)]
 
@@ -20,6 +20,7 @@ mod lending;
 #[allow(unsafe_code)]
 mod library;
 mod planning;
+mod program;
 mod putting;
 mod rated;
 mod rating;
@@ -40,6 +41,7 @@ use std::process::ExitCode;
 
 use asking::Asked;
 use compare::Tally;
+use program::Printed;
 use putting::Puts;
 use sizing::Rated;
 use stepping::Steps;
@@ -49,6 +51,7 @@ const RANDOM_JOBS: u64 = 90_000;
 const RANDOM_STEPS: u64 = 60_000;
 const RANDOM_RATES: u64 = 70_000;
 const RANDOM_PUTS: u64 = 20_000;
+const RANDOM_PROGRAMS: u64 = 2_400;
 const SEED: u64 = 0x5245_4C41_5900_0001;
 
 fn number(text: &str) -> Option<u64> {
@@ -59,7 +62,7 @@ fn number(text: &str) -> Option<u64> {
 }
 
 /// What is asked for, in the order of the arguments.
-fn arguments() -> Option<[u64; 6]> {
+fn arguments() -> Option<[u64; 7]> {
     let mut all = [
         RANDOM_STRINGS,
         SEED,
@@ -67,6 +70,7 @@ fn arguments() -> Option<[u64; 6]> {
         RANDOM_STEPS,
         RANDOM_RATES,
         RANDOM_PUTS,
+        RANDOM_PROGRAMS,
     ];
     for (i, text) in std::env::args().skip(1).enumerate() {
         *all.get_mut(i)? = number(&text)?;
@@ -75,11 +79,11 @@ fn arguments() -> Option<[u64; 6]> {
 }
 
 fn main() -> ExitCode {
-    let Some([strings, seed, jobs, random_steps, rates, random_puts]) = arguments()
+    let Some([strings, seed, jobs, random_steps, rates, random_puts, programs]) = arguments()
     else {
         eprintln!(
             "usage: harness [random strings [seed [random jobs [random steps \
-             [random rate jobs [random answers put back]]]]]]"
+             [random rate jobs [random answers put back [random program jobs]]]]]]]"
         );
         return ExitCode::from(2);
     };
@@ -88,12 +92,14 @@ fn main() -> ExitCode {
     let mut steps = Steps::new();
     let mut rated = Rated::new();
     let mut puts = Puts::new();
+    let mut printed = Printed::new();
     let all_well = [
         reading::run(strings, seed, &mut tally),
         planning::run(jobs, seed, &mut asked),
         running::run(random_steps, seed, &mut steps),
         rating::run(rates, seed, &mut rated),
         putting::run(random_puts, seed, &mut puts),
+        program::run(programs, seed, &mut printed),
     ];
     let failed = all_well.iter().filter(|&&well| !well).count();
     let passed = [
@@ -102,6 +108,7 @@ fn main() -> ExitCode {
         steps.counts.steps,
         rated.jobs,
         puts.jobs,
+        printed.jobs,
     ];
     println!(
         "harness: {} passed, {failed} failed",

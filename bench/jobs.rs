@@ -47,6 +47,24 @@ impl Delays {
     }
 }
 
+/// How the rates of the links lie.
+#[derive(Clone, Copy, PartialEq, Eq)]
+pub enum Rates {
+    /// In any order.
+    Mixed,
+    /// Each link's above that of the link before it.
+    Rising,
+}
+
+impl Rates {
+    pub fn name(self) -> &'static str {
+        match self {
+            Rates::Mixed => "mixed",
+            Rates::Rising => "rising",
+        }
+    }
+}
+
 pub struct Job {
     pub bytes: Vec<u8>,
     pub parent: Vec<usize>,
@@ -149,6 +167,54 @@ fn heaviest(sums: &[u64], gap: usize) -> u64 {
         .unwrap_or(0)
 }
 
+struct Record {
+    parent: usize,
+    delay: usize,
+    memory: u64,
+    rate: u64,
+}
+
+fn encode(records: impl ExactSizeIterator<Item = Record>, sizes: &[u64]) -> Vec<u8> {
+    let mut bytes = b"RLY\x00\x01".to_vec();
+    bytes.push(records.len() as u8 + 1);
+    bytes.extend((sizes.len() as u32).to_be_bytes());
+    for record in records {
+        bytes.push(record.parent as u8);
+        bytes.extend((record.delay as u16).to_be_bytes());
+        bytes.extend(record.memory.to_be_bytes());
+        bytes.extend(record.rate.to_be_bytes());
+    }
+    for &size in sizes {
+        bytes.extend((size as u32).to_be_bytes());
+    }
+    bytes
+}
+
+/// The bytes of a job for the rate question: no two links have one rate, and the least is
+/// a little above the mean frame, so that some delay serves.
+pub fn rated(shape: Shape, rates: Rates, n: usize, frames: usize) -> Vec<u8> {
+    let mut random = Random(0x52_4c5a);
+    let sizes = film(frames, &mut random);
+    let mean = sizes.iter().sum::<u64>() / frames as u64;
+    let parent = tree(shape, n, &mut random);
+    // From 1.03 to about 3 times the mean.
+    let mut rate: Vec<u64> = (1..n as u64)
+        .map(|i| mean * (100 + 3 * i) / 100 + i)
+        .collect();
+    if rates == Rates::Mixed {
+        for i in (1..n - 1).rev() {
+            rate.swap(i, random.next() as usize % (i + 1));
+        }
+    }
+    let records = (1..n).map(|v| Record {
+        parent: parent[v],
+        delay: 0,
+        memory: 0,
+        rate: rate[v - 1],
+    });
+    encode(records, &sizes)
+}
+
 /// A job that has a plan. Leaves hold a few to many frames; an inner node holds half to all
 /// of what the delays below it ask for, and the leaves the rest, so that the boxes bind.
 pub fn make(shape: Shape, delays: Delays, n: usize, frames: usize) -> Job {
@@ -201,18 +267,13 @@ pub fn make(shape: Shape, delays: Delays, n: usize, frames: usize) -> Job {
         }
     }
 
-    let mut bytes = b"RLY\x00\x01".to_vec();
-    bytes.push(n as u8);
-    bytes.extend((frames as u32).to_be_bytes());
-    for v in 1..n {
-        bytes.push(parent[v] as u8);
-        bytes.extend((delay[v] as u16).to_be_bytes());
-        bytes.extend(memory[v].to_be_bytes());
-        bytes.extend((4 * mean).to_be_bytes());
-    }
-    for &size in &sizes {
-        bytes.extend((size as u32).to_be_bytes());
-    }
+    let records = (1..n).map(|v| Record {
+        parent: parent[v],
+        delay: delay[v],
+        memory: memory[v],
+        rate: 4 * mean,
+    });
+    let bytes = encode(records, &sizes);
     let last = delay.iter().max().unwrap_or(&0);
     Job {
         bytes,

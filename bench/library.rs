@@ -8,6 +8,14 @@ pub struct Answer {
     pub total: u64,
 }
 
+#[repr(C)]
+#[derive(Clone, Copy, Debug, PartialEq, Eq)]
+pub struct RateAnswer {
+    pub number: u64,
+    pub delay: u64,
+    pub total: u64,
+}
+
 /// A running tree: its slot number, and what the link into each node has carried.
 #[repr(C)]
 #[derive(Clone, Copy)]
@@ -33,6 +41,13 @@ extern "C" {
         peaks: *mut u64,
         peaks_len: usize,
     ) -> Answer;
+
+    fn relay_rate_question(
+        job: *const u8,
+        job_len: usize,
+        memories: *mut u64,
+        memories_len: usize,
+    ) -> RateAnswer;
 
     fn relay_start() -> Running;
 
@@ -60,6 +75,19 @@ pub fn memory_question(job: &[u8], plan: &mut [u64], peaks: &mut [u64]) -> Answe
             plan.len(),
             peaks.as_mut_ptr(),
             peaks.len(),
+        )
+    }
+}
+
+/// The rate question, answered by the library.
+pub fn rate_question(job: &[u8], memories: &mut [u64]) -> RateAnswer {
+    // SAFETY: each pointer comes with the length of the slice it was taken from.
+    unsafe {
+        relay_rate_question(
+            job.as_ptr(),
+            job.len(),
+            memories.as_mut_ptr(),
+            memories.len(),
         )
     }
 }

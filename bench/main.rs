@@ -1,15 +1,18 @@
-//! Times the memory question of the proved library against a peer written for speed.
-//! Both are given the same jobs in turn, on one core, with buffers written beforehand.
-//! Then times a step of a running tree, which has no peer. Only a disagreement between
-//! the two, or a step of the library's own plan that is not taken, fails the run.
+//! Times the memory question and the rate question of the proved library against peers
+//! written for speed. Both sides are given the same jobs in turn, on one core, with buffers
+//! written beforehand. Then times a step of a running tree, which has no peer. Only a
+//! disagreement between the two sides, or a step of the library's own plan that is not
+//! taken, fails the run.
 
 mod jobs;
 mod library;
 mod peer;
+mod sizer;
 
-use jobs::{Delays, Job, Shape};
+use jobs::{Delays, Job, Rates, Shape};
 use library::Answer;
 use peer::Peer;
+use sizer::Sizer;
 use std::hint::black_box;
 use std::process::ExitCode;
 use std::time::{Duration, Instant};
@@ -28,6 +31,17 @@ const SHAPES: [(Shape, Delays); 11] = [
     (Shape::Random, Delays::Equal),
     (Shape::CaterpillarDown, Delays::Equal),
 ];
+
+/// Trees of the rate question, and the most by which the library may be slower than the
+/// peer there.
+const RATED: [(Shape, Rates); 5] = [
+    (Shape::Star, Rates::Mixed),
+    (Shape::Chain, Rates::Mixed),
+    (Shape::Chain, Rates::Rising),
+    (Shape::Binary, Rates::Mixed),
+    (Shape::Random, Rates::Mixed),
+];
+const RATED_BAR: f64 = 1.5;
 
 /// Sizes of the jobs of which steps are timed.
 const STEP_SIZES: [(usize, usize); 3] = [(4, 12), (16, 3_000), (64, 65_536)];
@@ -107,7 +121,7 @@ fn shares_bound(job: &Job, plan: &[u64], total: u64) -> (f64, f64) {
 }
 
 /// Seconds for one question: once, or on average over repeats of a small job.
-fn seconds(small: bool, mut question: impl FnMut() -> Answer) -> f64 {
+fn seconds<T>(small: bool, mut question: impl FnMut() -> T) -> f64 {
     let start = Instant::now();
     let mut count = 0;
     loop {
@@ -118,6 +132,53 @@ fn seconds(small: bool, mut question: impl FnMut() -> Answer) -> f64 {
             return taken.as_secs_f64() / f64::from(count);
         }
     }
+}
+
+/// Times the rate question on each tree and prints a line for each. Says whether the
+/// library and the peer agree, with a delay that serves.
+fn time_rates() -> bool {
+    let (nodes, frames) = SIZES[1];
+    let mut sizer = Sizer::new();
+    let mut agreed = true;
+    let mut over = 0;
+    println!("the rate question, {nodes} nodes x {frames} frames, no two rates the same:");
+    println!(
+        "{:<8} {:<6} {:>6} {:>11} {:>8} {:>6} {:>4}",
+        "shape", "rates", "delay", "library ms", "peer ms", "ratio", "bar"
+    );
+    for (shape, rates) in RATED {
+        let row = format!("{:<8} {:<6}", shape.name(Delays::Spread), rates.name());
+        let job = jobs::rated(shape, rates, nodes, frames);
+        let mut ours = vec![u64::MAX; nodes - 1];
+        let mut theirs = ours.clone();
+        let answer = library::rate_question(&job, &mut ours);
+        let peer = sizer.rate_question(&job, &mut theirs);
+        if answer != peer || answer.number != 0 || ours != theirs {
+            println!("{row} MISMATCH: library {answer:?}, peer {peer:?}");
+            agreed = false;
+            continue;
+        }
+        let (mut library_best, mut peer_best) = (f64::INFINITY, f64::INFINITY);
+        for _ in 0..SMALL_RUNS {
+            library_best = library_best.min(seconds(true, || {
+                library::rate_question(black_box(&job), &mut ours)
+            }));
+            peer_best = peer_best.min(seconds(true, || {
+                sizer.rate_question(black_box(&job), &mut theirs)
+            }));
+        }
+        let ratio = library_best / peer_best;
+        over += u32::from(ratio > RATED_BAR);
+        println!(
+            "{row} {:>6} {:>11.3} {:>8.3} {ratio:>6.2} {RATED_BAR:>4.1} {}",
+            answer.delay,
+            library_best * 1e3,
+            peer_best * 1e3,
+            if ratio > RATED_BAR { "over" } else { "ok" }
+        );
+    }
+    println!("rate question, rows over the bar: {over}");
+    agreed
 }
 
 /// Seconds for one step on average, while a plan of the library runs from its start and,
@@ -258,8 +319,9 @@ fn main() -> ExitCode {
         "worst ratio {:.2} ({}); rows over the bar: {over}",
         worst.0, worst.1
     );
+    let rated = time_rates();
     let taken = time_steps();
-    if agreed && taken {
+    if agreed && rated && taken {
         ExitCode::SUCCESS
     } else {
         ExitCode::FAILURE

@@ -5,9 +5,9 @@
 
 use crate::library::Answer;
 
-const MOST_NODES: usize = 64;
-const MOST_FRAMES: usize = 65_536;
-const MOST_DELAY: usize = 4_096;
+pub const MOST_NODES: usize = 64;
+pub const MOST_FRAMES: usize = 65_536;
+pub const MOST_DELAY: usize = 4_096;
 const MOST_BYTES: u64 = 1_099_511_627_775;
 const MOST_FRAME: u32 = 16_777_215;
 const MOST_SLOTS: usize = MOST_FRAMES + MOST_DELAY + 1;
@@ -25,11 +25,12 @@ pub struct Peer {
 }
 
 #[derive(Clone, Copy, Default)]
-struct Node {
-    parent: usize,
+pub struct Node {
+    pub parent: usize,
     delay: usize,
     memory: i64,
-    leaf: bool,
+    pub rate: u64,
+    pub leaf: bool,
 }
 
 /// The part `a..e` of the row of node `u` with that of node `v`, where u < v.
@@ -207,7 +208,7 @@ impl Peer {
 }
 
 /// Reads the job into `nodes`: the node count, the frame count and the bytes of the film.
-fn read<'a>(
+pub fn read<'a>(
     job: &'a [u8],
     nodes: &mut [Node; MOST_NODES],
 ) -> Result<(usize, usize, &'a [u8]), u64> {
@@ -237,6 +238,7 @@ fn read<'a>(
         parent: 0,
         delay: MOST_DELAY,
         memory: 0,
+        rate: 0,
         leaf: false,
     };
     for (i, record) in records.chunks_exact(19).enumerate() {
@@ -245,11 +247,13 @@ fn read<'a>(
             return Err(7);
         }
         let memory = be_u64(&record[3..11]);
-        too_large |= memory > MOST_BYTES || be_u64(&record[11..19]) > MOST_BYTES;
+        let rate = be_u64(&record[11..19]);
+        too_large |= memory > MOST_BYTES || rate > MOST_BYTES;
         nodes[i + 1] = Node {
             parent,
             delay: be_u64(&record[1..3]) as usize,
             memory: memory as i64,
+            rate,
             leaf: true,
         };
         nodes[parent].leaf = false;

@@ -1,8 +1,9 @@
 -- A need found in one pass forward over the frames: the most that what is played gets ahead of the floor rate.
 use mathlib.Core.Path.{_≡_, refl, ap, fun-ext, _∙_}
-use Prim.Native.Nat.{ℕ, zero, suc, _+_, _-_, _*_, _≤_, _<_, max}
+use Prim.Native.Nat.{ℕ, zero, suc, _+_, _-_, _*_, _≤_, _<_, max, min}
 use native.Mathlib.Omega.{arith}
 use native.Mathlib.Decide.{ℕ-discrete}
+use native.Mathlib.Nat.{mul-le-mul-left}
 use Rattle.job.specs.Tree.{Tree, TreeWithin}
 use Rattle.smoothing.specs.Row.{lazy}
 use Rattle.smoothing.specs.Rates as theory
@@ -11,7 +12,8 @@ use Rattle.smoothing.proofs.LazyLaws.{lazy-above, lazy-rises, lazy-under}
 use Rattle.smoothing.proofs.NeedLaws.{need-above, need-least, need-delay}
 use Rattle.curves.specs.Curves.{Film}
 use Rattle.rates.specs.Rates.{floorRate, need}
-use Rattle.rates.specs.Work.{ahead, mostAhead}
+use Rattle.rates.specs.Work.{ahead, mostAhead, level, slotOf, PassedTo}
+use Rattle.rates.specs.declared.Pass.{Pass}
 use Rattle.rates.proofs.TheoryLaws.{question, good, floor-is, need-is}
 
 module _ (T : ℕ → ℕ) (grows : (m : ℕ) → T m ≤ T (suc m)) (q : ℕ) where
@@ -81,22 +83,49 @@ module _ (T : ℕ → ℕ) (grows : (m : ℕ) → T m ≤ T (suc m)) (q : ℕ) w
       (λ i h. ahead-least i x
       (λ k l. omega (arith, lazy-above M q T i h, rise-over M q (lazy M q T) (lazy-rises M q T) k i l h, each k (omega arith))))
 
--- ---- a step of the pass
+-- ---- the pass
 
-module _ (T : ℕ → ℕ) (q m : ℕ) (some-frame : 0 < m) where
-  pub ahead-more : ahead T q (m - 1) + (T m - T (m - 1)) - q ≡ ahead T q m
-  unfolding ahead
-  ahead-more = let e : m ≡ suc (m - 1) = omega arith in rw e (back (m - 1))
-    where
-      back : (i : ℕ) → ahead T q (suc i - 1) + (T (suc i) - T (suc i - 1)) - q ≡ ahead T q (suc i)
-      back i = let e : suc i - 1 ≡ i = omega arith in rw e refl
+module _ (T : ℕ → ℕ) (grows : (m k : ℕ) → m ≤ k → T m ≤ T k) (r M : ℕ) where
+  pub pass-start : T 0 ≡ 0 → PassedTo T r M 0 (record { low = r * M; most = 0 })
+  unfolding ahead mostAhead
+  pass-start z = let e : M - 0 ≡ M = omega arith in record { lowest = rw (e, z) (omega arith); so-far = refl }
 
-  pub most-more : max (mostAhead T q (m - 1)) (ahead T q m) ≡ mostAhead T q m
-  unfolding mostAhead
-  most-more = let e : m ≡ suc (m - 1) = omega arith in rw e (back (m - 1))
+  pub pass-slot : (m : ℕ) (p : Pass) → m < M → PassedTo T r M m p → PassedTo T r M (suc m) (slotOf p (level T r M (suc m)))
+  unfolding ahead mostAhead
+  pass-slot m p h at =
+      let e : M - m ≡ suc (M - suc m) = omega arith in
+      let more : r * (M - m) ≡ r * (M - suc m) + r = rw e (omega arith) in
+      let up = grows m (suc m) (omega arith) in
+      record {
+        lowest = omega (arith, at .lowest, more, up);
+        so-far =
+            let now : level T r M (suc m) - min (p .low) (level T r M (suc m)) ≡ ahead T r m + (T (suc m) - T m) - r = omega (arith, at .lowest, more, up) in
+            rw (at .so-far, now) refl;
+      }
+
+  -- where no level between two slots is below the lowest or above it by more than the most, nothing changes
+  pub pass-over : (from to : ℕ) (p : Pass) → from ≤ to → to ≤ M → p .low ≤ T from + r * (M - to) → T to + r * (M - from) ≤ p .low + p .most
+      → PassedTo T r M from p → PassedTo T r M to p
+  pass-over from to p h l low high at = go (to - from) to (omega arith) (omega arith)
     where
-      back : (i : ℕ) → max (mostAhead T q (suc i - 1)) (ahead T q (suc i)) ≡ mostAhead T q (suc i)
-      back i = let e : suc i - 1 ≡ i = omega arith in rw e refl
+      go : (d k : ℕ) → k ≡ from + d → k ≤ to → PassedTo T r M k p
+      go zero k e q = let z : k ≡ from = omega arith in rw z at
+      go (suc d) zero e q = absurd (omega arith)
+      go (suc d) (suc k) e q =
+          let y = level T r M (suc k) in
+          let later : M - to ≤ M - suc k = omega arith in
+          let sooner : M - suc k ≤ M - from = omega arith in
+          let floor = mul-le-mul-left r later in
+          let roof = mul-le-mul-left r sooner in
+          let lower : min (p .low) y ≡ p .low = omega (arith, low, floor, grows from (suc k) (omega arith)) in
+          let most : max (p .most) (y - p .low) ≡ p .most = omega (arith, high, roof, grows (suc k) to (omega arith)) in
+          let step : PassedTo T r M (suc k) (record { low = min (p .low) y; most = max (p .most) (y - min (p .low) y) }) = pass-slot k p (omega arith) (go d k (omega arith) (omega arith)) in
+          record { lowest = rw lower at (step .lowest); so-far = rw (lower, most) at (step .so-far) }
+
+  -- a pass's numbers are small
+  pub pass-small : (m : ℕ) (p : Pass) → PassedTo T r M m p → (p .low ≤ level T r M m) × (p .most ≤ T m)
+  pass-small m p at =
+      (omega (arith, at .lowest), omega (arith, at .so-far, most-under T (λ k. grows k (suc k) (omega arith)) r m))
 
 -- ---- the need
 

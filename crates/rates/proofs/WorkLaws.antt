@@ -5,9 +5,10 @@ use mathlib.Core.Path.{_≡_, refl, ap, sym, _∙_}
 use Prim.Native.Nat.{ℕ, suc, _+_, _-_, _≤_, _<_, min}
 use native.Mathlib.Omega.{arith}
 use lib.ListN.{length, getD}
+use borrow.Author.Tests.{eq-eqb}
 use Rattle.base.specs.Range.{some}
 use Rattle.base.specs.Table.{tab}
-use Rattle.base.proofs.RangeLaws.{sumOver-monotone, some-passes, leastOver-attained, leastOver-cong}
+use Rattle.base.proofs.RangeLaws.{sumOver-monotone, some-passes, leastOver-below, leastOver-attained, leastOver-cong}
 use Rattle.base.proofs.TableLaws.{getD-tab, tab-cong}
 use Rattle.job.specs.Limits.{mostNodes, greatestTotal, greatestRate}
 use Rattle.job.specs.Tree.{Tree, TreeWithin, link, child, leaf}
@@ -18,7 +19,7 @@ use Rattle.smoothing.proofs.NeedLaws.{need-parent}
 use Rattle.curves.specs.Curves.{Film, sumsIn, lastIn, HoldsSums}
 use Rattle.curves.proofs.SumsLaws.{film-of, sum-fits}
 use Rattle.writing.specs.PutBack.{memoriesIn}
-use Rattle.rates.specs.Rates.{total, floorRate, leastRate, need, memory}
+use Rattle.rates.specs.Rates.{atOrBelow, total, floorRate, leastRate, need, memory}
 use Rattle.rates.specs.Work.{mostAhead, needsOf, Needs, memoryBy}
 use Rattle.rates.proofs.TheoryLaws.{question, good, need-is}
 use Rattle.rates.proofs.NeedLaws.{most-under, need-ahead}
@@ -30,6 +31,12 @@ least-rate-fits t tree =
     let one : 1 < t .n = omega (arith, tree .nodes-from) in
     let (v, l, e, q) = leastOver-attained (link (t .n)) (t .rate) (t .n) (some-passes (link (t .n)) (t .n) 1 one (link-is (t .n) 1 (omega arith) one)) in
     omega (arith, q, tree .rates v e)
+
+-- and a floor rate is no more than the node's own
+pub floor-rate-fits : (t : Tree) → TreeWithin t → (i : ℕ) → link (t .n) i ≡ true → floorRate t i ≤ greatestRate
+unfolding floorRate
+floor-rate-fits t tree i h =
+    omega (arith, leastOver-below (atOrBelow t i) (t .rate) (t .n) i (link-in (t .n) i h .1) (rw (eq-eqb i i refl) refl), tree .rates i h)
 
 -- the memory of node i in the list of all
 pub memory-at : (f : ℕ → ℕ) (n : ℕ) (l : List ℕ) → l ≡ tab (λ i. f (suc i)) (n - 1) → (i : ℕ) → 0 < i → i < n → memoriesIn l i ≡ f i

@@ -2,16 +2,17 @@
 use mathlib.Core.Bool.{true, cond}
 use mathlib.Core.List.{List}
 use mathlib.Core.Path.{_≡_}
-use Prim.Native.Nat.{ℕ, zero, suc, _+_, _-_, _*_, _≤_, _<_, max}
+use Prim.Native.Nat.{ℕ, zero, suc, _+_, _-_, _*_, _≤_, _<_, max, min}
 use lib.ListN.{length, getD}
 use Rattle.base.specs.Range.{leastOver}
 use Rattle.base.specs.Table.{tab}
-use Rattle.job.specs.Limits.{mostNodes, longestDelay, greatestTotal}
+use Rattle.job.specs.Limits.{mostNodes, mostFrames, longestDelay, greatestRate, greatestTotal}
 use Rattle.job.specs.Tree.{Tree, link, child, leaf}
 use Rattle.job.specs.Bytes.{perNode}
-use Rattle.curves.specs.Curves.{sumsIn}
+use Rattle.curves.specs.Curves.{sumsIn, HoldsSums}
 use Rattle.writing.specs.PutBack.{memoriesIn}
 use Rattle.rates.specs.Rates.{total, floorRate, startDelay, memory}
+use Rattle.rates.specs.declared.Pass.{Pass}
 use Rattle.rates.specs.declared.Sizing.{Sizing}
 use Rattle.rates.specs.declared.Sizing.the-variants.{Refused, Sized}
 
@@ -25,6 +26,27 @@ ahead T r (suc m) = ahead T r m + (T (suc m) - T m) - r
 unfoldable pub mostAhead : (ℕ → ℕ) → ℕ → ℕ → ℕ
 mostAhead T r zero = 0
 mostAhead T r (suc m) = max (mostAhead T r m) (ahead T r (suc m))
+
+-- the level of slot m: what is played by m, and what a link at rate r still carries from there to the last slot M
+abbrev pub level : (ℕ → ℕ) → ℕ → ℕ → ℕ → ℕ
+level T r M m = T m + r * (M - m)
+
+-- a pass one slot further, to a slot of level y: the lowest level, and the most that a level is above the lowest one up to it
+abbrev pub slotOf : Pass → ℕ → Pass
+slotOf p y = record { low = min (p .low) y; most = max (p .most) (y - min (p .low) y) }
+
+-- a pass has come to slot m: it has the lowest level, above which the level of m is by what is ahead, and the most that was ahead
+pub record PassedTo (T : ℕ → ℕ) (r M m : ℕ) (p : Pass) : Type 0 where
+  pub lowest : p .low + ahead T r m ≡ level T r M m
+  pub so-far : p .most ≡ mostAhead T r m
+
+-- sums, a rate, and two slots to pass between
+pub record Passable (sums : List ℕ) (r from to : ℕ) : Type 0 where
+  pub film : HoldsSums sums
+  pub short : length sums ≤ mostFrames + 1
+  pub rate : r ≤ greatestRate
+  pub forth : from ≤ to
+  pub within : to < length sums
 
 -- x is the least delay from w on with T ≤ r × (m + x); one more than the longest delay where none up to that is
 pub record Later (T r m w x : ℕ) : Type 0 where

@@ -16,7 +16,7 @@ ghost use Rattle.job.proofs.RefusalLaws.{Accepted};
 ghost use Rattle.curves.specs.Curves.{sumsIn, HoldsSums};
 ghost use Rattle.rates.specs.Rates.{total, floorRate, leastRate, inTime};
 ghost use Rattle.rates.specs.Answer.{Sizes};
-ghost use Rattle.rates.specs.Work.{mostAhead, Later, needsOf, Needs, memoryBy, Worked};
+ghost use Rattle.rates.specs.Work.{mostAhead, slotOf, Passable, PassedTo, Later, needsOf, Needs, memoryBy, Worked};
 use job::Job;
 use job::Node;
 
@@ -98,34 +98,91 @@ fn start_delay(sums: &[u64], r: u64) -> u64
     w
 }
 
-// What is ahead of rate r one frame later.
-fn further(ahead: u64, frame: u64, r: u64) -> u64
-    requires { ⌜ (ahead ≤ greatestTotal) × (frame ≤ greatestTotal) ⌝ }
-    ensures { λ x. ⌜ x ≡ ahead + frame - r ⌝ }
+// Where a pass over the frames stands, whose greatest excess is a need: specs/Work says what the two numbers are.
+pub struct Pass {
+    pub low: u64,
+    pub most: u64,
+}
+
+// One slot further, to the slot with this level.
+fn slot(pass: Pass, level: u64) -> Pass
+    ensures { λ p. ⌜ p ≡ slotOf pass level ⌝ }
 {
-    let sum = ahead + frame;
-    if r < sum { sum - r } else { 0 }
+    let low = lesser(pass.low, level);
+    Pass {
+        low,
+        most: greater(pass.most, level - low),
+    }
+}
+
+// From slot `from` to slot `to`, slot by slot.
+fn slots(sums: &[u64], r: u64, pass: Pass, from: usize, to: usize) -> Pass
+    requires { ⌜ Passable (now sums) r from to × PassedTo (sumsIn (now sums)) r (length (now sums) - 1) from pass ⌝ }
+    ensures { λ p. ⌜ PassedTo (sumsIn (now (sums .entry))) r (length (now (sums .entry)) - 1) to p ⌝ }
+{
+    let last = sums.len() - 1;
+    let mut p = pass;
+    let mut m = from;
+    while m < to {
+        m += 1;
+        p = slot(p, sums[m] + r * (last - m) as u64);
+    }
+    p
+}
+
+// The same, but at once where no level on the way can be below the lowest or make for more than the most.
+fn stretch(sums: &[u64], r: u64, pass: Pass, from: usize, to: usize) -> Pass
+    requires { ⌜ Passable (now sums) r from to × PassedTo (sumsIn (now sums)) r (length (now sums) - 1) from pass ⌝ }
+    ensures { λ p. ⌜ PassedTo (sumsIn (now (sums .entry))) r (length (now (sums .entry)) - 1) to p ⌝ }
+{
+    let last = sums.len() - 1;
+    let lowest = sums[from] + r * (last - to) as u64;
+    if lowest < pass.low {
+        return slots(sums, r, pass, from, to);
+    }
+    let highest = sums[to] + r * (last - from) as u64;
+    if pass.low + pass.most < highest {
+        return slots(sums, r, pass, from, to);
+    }
+    pass
+}
+
+// How many slots a stretch has: few enough that most can be passed at once, and many enough that this pays.
+const STRETCH: usize = 32;
+
+fn stretch_end(m: usize, last: usize) -> usize
+    requires { ⌜ m < last ⌝ }
+    ensures { λ r. ⌜ (m < r) × (r ≤ last) ⌝ }
+{
+    if last - m < STRETCH {
+        last
+    } else {
+        m + STRETCH
+    }
 }
 
 // A need, by one pass over the frames: the most that what is played gets ahead of rate r.
 fn need_of(sums: &[u64], r: u64) -> u64
-    requires { ⌜ HoldsSums (now sums) ⌝ }
+    requires { ⌜ HoldsSums (now sums) × ((length (now sums) ≤ mostFrames + 1) × (r ≤ greatestRate)) ⌝ }
     ensures { λ x. ⌜ x ≡ mostAhead (sumsIn (now (sums .entry))) r (length (now (sums .entry)) - 1) ⌝ }
 {
-    let mut ahead = 0;
-    let mut most = 0;
-    let mut m = 1;
-    while m < sums.len() {
-        ahead = further(ahead, sums[m] - sums[m - 1], r);
-        most = greater(most, ahead);
-        m += 1;
+    let last = sums.len() - 1;
+    let mut pass = Pass {
+        low: r * last as u64,
+        most: 0,
+    };
+    let mut m = 0;
+    while m < last {
+        let to = stretch_end(m, last);
+        pass = stretch(sums, r, pass, m, to);
+        m = to;
     }
-    most
+    pass.most
 }
 
 // The need of each node at its place.
 fn needs(job: Job, sums: &[u64]) -> [u64; Job::MOST_NODES]
-    requires { ⌜ TreeWithin (treeIn job) × HoldsSums (now sums) ⌝ }
+    requires { ⌜ TreeWithin (treeIn job) × (HoldsSums (now sums) × (length (now sums) ≤ mostFrames + 1)) ⌝ }
     ensures { λ r. ⌜ r ≡ needsOf (treeIn job) (now (sums .entry)) ⌝ }
 {
     let nodes = job.nodes;

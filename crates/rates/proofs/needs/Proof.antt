@@ -20,6 +20,7 @@ use Rattle.job.proofs.ReadLaws.{fields-none, fields-more, zeros-are}
 use Rattle.curves.specs.Curves.{sumsIn}
 use Rattle.rates.specs.Rates.{floorRate}
 use Rattle.rates.specs.Work.{mostAhead}
+use Rattle.rates.proofs.WorkLaws.{floor-rate-fits}
 
 -- the need of node i, as it is found
 abbrev needAt : Job → List ℕ → ℕ → ℕ
@@ -38,7 +39,7 @@ floor-rate-requires : tie.Need-floor-rate-requires Inv-loop μ-loop
 floor-rate-requires c κs = (c .before .before .before .pre .0, link-is _ _ (c .before .loop .inv .0) (c .loop-test .taken))
 
 need-of-requires : tie.Need-need-of-requires Inv-loop μ-loop
-need-of-requires c κs = c .before .before .before .before .pre .1
+need-of-requires c κs = (c .before .before .before .before .pre .1 .0, (c .before .before .before .before .pre .1 .1, omega (arith, c .floor-rate .ensures, floor-rate-fits (treeIn (c .before .before .before .before .args .job)) (c .before .before .before .before .pre .0) (c .before .before .loop .i) (link-is _ _ (c .before .before .loop .inv .0) (c .before .loop-test .taken)))))
 
 mul-out : tie.Need-mul-out Inv-loop μ-loop
 mul-out c = omega (arith, c .before .before .loop-test .taken, c .before .before .before .before .before .pre .0 .nodes-to)

@@ -35,7 +35,7 @@ unfolding Worked
 returns c = (refl, (omega (arith, c .if1 .taken, delay-is (c .before)), refl))
 
 needs-requires : tie.Need-needs-requires
-needs-requires c κs = (c .before .before .before .before .before .pre .0, c .before .before .before .before .before .pre .1 .1 .0)
+needs-requires c κs = (c .before .before .before .before .before .pre .0, (c .before .before .before .before .before .pre .1 .1 .0, omega (arith, c .before .before .before .before .before .pre .1 .1 .1 .0, c .before .before .before .before .before .pre .1 .0)))
 
 fill-requires : tie.Need-fill-requires
 fill-requires c κs =

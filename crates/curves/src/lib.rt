@@ -416,8 +416,9 @@ fn lessen(out: &mut [u64], less: u64)
     }
 }
 
-// The kept row, which has the lower curve of node c, becomes that of node u: at little cost where c is u or its parent.
-fn keep_row(job: Job, sums: &[u64], c: usize, u: usize, kept: &mut [u64])
+// The kept row, which has the lower curve of node c, becomes that of node u: at little cost where c is u or its parent. It may have
+// anything where c is the root.
+pub fn keep_row(job: Job, sums: &[u64], c: usize, u: usize, kept: &mut [u64])
     requires { ⌜ TreeWithin (treeIn job) × (((0 < u) × (u < job .nodes)) × (HoldsSums (now sums) × Kept (treeIn job) (sumsIn (now sums)) c (now kept))) ⌝ }
     ensures { λ _. ⌜ now (kept .exit) ≡ tab (lowerCurve (treeIn job) (sumsIn (now (sums .entry))) u) (length (now (kept .entry))) ⌝ }
 {

@@ -1,32 +1,28 @@
 -- The rules of document 01 and those of the theory are the same: of any plan, and so of the best one.
-use mathlib.Core.Bool.{Bool, true, false}
+use mathlib.Core.Bool.{true, false}
 use mathlib.Core.Path.{_≡_, refl}
 use mathlib.Core.Logic.{⊎-elim}
 use Prim.Native.Nat.{ℕ, zero, suc, _+_, _≤_, _<_}
 use native.Mathlib.Omega.{arith}
 use Rattle.base.proofs.BoolLaws.{true-or-false}
-use Rattle.job.specs.Tree.{Tree, JobData, JobWithin, link, leaf, T, H}
+use Rattle.job.specs.Tree.{JobData, JobWithin, link, leaf, T, H}
 use Rattle.job.proofs.TreeLaws.{link-is, link-in, child-is, child-in}
 use Rattle.job.proofs.SlotLaws.{leaf-link}
 use Rattle.smoothing.specs.Tree.{Link}
 use Rattle.smoothing.specs.Plan as theory
-use Rattle.smoothing.specs.Plan.{Problem, WellFormed, Optimal, lower, Feasible, plan}
-use Rattle.smoothing.proofs.CurveLaws.{plan-feasible, feasible-from-high, upper-below-high}
+use Rattle.smoothing.specs.Plan.{Problem, WellFormed, Optimal, Feasible, plan}
+use Rattle.smoothing.proofs.CurveLaws.{plan-feasible}
 use Rattle.smoothing.proofs.OptimalLaws.{plan-optimal, optimal-unique}
 use Rattle.curves.specs.Curves.{D, lowerCurve, upperCurve, low, high, problem}
 use Rattle.curves.proofs.UpperLaws.{high-under}
 use Rattle.curves.proofs.SumsLaws.{job-film}
-use Rattle.curves.proofs.CurveEq.{lower-is, upper-is, lower-top, problem-well-formed}
+use Rattle.curves.proofs.CurveEq.{lower-is, upper-is, problem-well-formed}
 use Rattle.planner.specs.Rules.{P2, Keeps, Best}
+use Rattle.planner.proofs.RoomLaws.{upper-in-room, feasible-by-room}
 
 -- the theory's problem of a job
 abbrev pub problemOf : JobData → Problem
 problemOf j = problem (j .tree) (T j) (T j (j .M)) (H j)
-
--- above slot 0 an inner node may have T(M)
-high-inner : (t : Tree) (T : ℕ → ℕ) (top i k : ℕ) → leaf t i ≡ false → high t T top i (suc k) ≡ top
-unfolding high
-high-inner t T top i k e = rw e refl
 
 module _ (j : JobData) (within : JobWithin j) where
   linked : (i : ℕ) → Link (j .tree .n) i → link (j .tree .n) i ≡ true
@@ -133,31 +129,9 @@ module _ (j : JobData) (within : JobWithin j) where
   -- looking at the leaves is enough: where at no leaf and no slot lower exceeds upper, it does so nowhere
   pub feasible-by-leaves : ((i : ℕ) → leaf (j .tree) i ≡ true → (k : ℕ) → k ≤ H j → lowerCurve (j .tree) (T j) i k ≤ upperCurve (j .tree) (T j) (T j (j .M)) i k)
       → Feasible (problemOf j)
-  feasible-by-leaves fine = feasible-from-high (problemOf j) wellFormed under
-    where
-      lowers : (i k : ℕ) → Link (j .tree .n) i → lowerCurve (j .tree) (T j) i k ≡ lower (problemOf j) i k
-      lowers i k l = lower-is (j .tree) (within .tree) (T j) (T j (j .M)) (H j) i k l
-
-      at : (i k : ℕ) → Link (j .tree .n) i → (b : Bool) → leaf (j .tree) i ≡ b → 0 < k → k ≤ H j → lower (problemOf j) i k ≤ high (j .tree) (T j) (T j (j .M)) i k
-      at i k l true e p r =
-          omega (
-            arith,
-            lowers i k l,
-            fine i e k r,
-            upper-is (j .tree) (within .tree) (T j) (T j (j .M)) (H j) i k l,
-            upper-below-high (problemOf j) wellFormed i l k,
-          )
-      at i zero l false e p r = absurd (omega arith)
-      at i (suc k) l false e p r =
-          omega (
-            arith,
-            lowers i (suc k) l,
-            lower-top (j .tree) (within .tree) (T j) (T j (j .M)) (H j) (job-film j) i (suc k) l,
-            high-inner (j .tree) (T j) (T j (j .M)) i k e,
-          )
-
-      under : (i : ℕ) → Link (j .tree .n) i → (k : ℕ) → 0 < k → k ≤ H j → lower (problemOf j) i k ≤ high (j .tree) (T j) (T j (j .M)) i k
-      under i l k p r = at i k l (leaf (j .tree) i) refl p r
+  feasible-by-leaves fine =
+      feasible-by-room (j .tree) (within .tree) (T j) (T j (j .M)) (job-film j) (H j)
+      (λ i e k r. omega (arith, fine i e k r, upper-in-room (j .tree) (within .tree) (T j) (T j (j .M)) i k e))
 
   -- and then the theory's plan is the best
   pub plan-best : ((i : ℕ) → leaf (j .tree) i ≡ true → (k : ℕ) → k ≤ H j → lowerCurve (j .tree) (T j) i k ≤ upperCurve (j .tree) (T j) (T j (j .M)) i k)

@@ -1,3 +1,4 @@
+pub mod RoomLaws
 pub mod KeepLaws
 pub mod WorkLaws
 pub mod AnswerLaws

@@ -1,9 +1,7 @@
 -- What the memory question's inner functions lean on: rows filled with curves are fit for the search, and what is computed from such
 -- rows is what the theory computes from the curves.
-use mathlib.Core.Bool.{true}
 use mathlib.Core.List.{List}
 use mathlib.Core.Path.{_≡_, refl, ap, _∙_}
-use mathlib.Core.Logic.{_≢_}
 use Prim.Native.Nat.{ℕ, zero, suc, _+_, _-_, _*_, _≤_, _<_}
 use native.Mathlib.Omega.{arith}
 use lib.ListN.{length, getD}
@@ -11,7 +9,7 @@ use Rattle.base.specs.Range.{greatest}
 use Rattle.base.specs.Table.{tab}
 use Rattle.base.proofs.TableLaws.{length-tab, getD-tab, tab-cong, getD-rows}
 use Rattle.base.proofs.PartLaws.{rows-of-cells}
-use Rattle.job.specs.Tree.{Tree, TreeWithin, leaf}
+use Rattle.job.specs.Tree.{Tree, TreeWithin}
 use Rattle.job.specs.Read.{treeIn}
 use Rattle.job.specs.declared.Job.{Job}
 use Rattle.smoothing.specs.Tree.{Link, Ordered, close}
@@ -22,12 +20,10 @@ use Rattle.smoothing.specs.Row.{leastPeak, lazyBefore, lazy}
 use Rattle.smoothing.specs.Plan.{Problem, lower, upper, linkPeak, lazyPlan, plan}
 use Rattle.curves.specs.Curves.{lowerCurve, upperCurve, sumsIn, lastIn}
 use Rattle.curves.proofs.SumsLaws.{film-of}
-use Rattle.curves.specs.Rows.{leafLower, leafUpper}
 use Rattle.curves.proofs.CurveEq.{lower-is, upper-is, lower-top}
-use Rattle.curves.proofs.AllRowsLaws.{leaf-lower-is, leaf-upper-is}
 use Rattle.rows.specs.Search.{Searchable}
 use Rattle.rows.specs.Closing.{slotIn}
-use Rattle.planner.specs.Work.{Ready, Fed, Starves, problemIn, lazyRowOf, lazyRowsOf, planRowsOf}
+use Rattle.planner.specs.Work.{Ready, problemIn, lazyRowOf, lazyRowsOf, planRowsOf}
 
 -- ---- rows that agree up to the last slot
 
@@ -58,7 +54,7 @@ unfolding upperCurve
 upper-top t T top i zero = omega arith
 upper-top t T top i (suc k) = omega arith
 
-module _ (job : Job) (sums lowers uppers : List ℕ) (ready : Ready job sums lowers uppers) (v : ℕ) (is-link : Link (job .nodes) v) where
+module _ (job : Job) (sums lowers kept : List ℕ) (ready : Ready job sums lowers kept) (v : ℕ) (is-link : Link (job .nodes) v) where
   t : Tree
   t = treeIn job
 
@@ -118,30 +114,6 @@ module _ (job : Job) (sums lowers uppers : List ℕ) (ready : Ready job sums low
       let back : suc (v - 1) ≡ v = omega arith in
       rw (length-tab (lowerCurve (treeIn job) (sumsIn sums) v) (length lowers), e, back)
       (tab-cong _ _ (length lowers) (λ k h. lazy-same (length lowers - 1) (linkPeak (problemIn job sums (length lowers)) v) (familyIn lowerRow) _ lower-here k (omega arith)))
-
--- ---- what two rows of its parent say of a leaf
-
-module _ (t : Tree) (within : TreeWithin t) (T : ℕ → ℕ) (top i w : ℕ) (is-leaf : leaf t i ≡ true) (is-link : Link (t .n) i) (inner : t .parent i ≢ 0)
-    (l u : List ℕ) (is-lower : l ≡ tab (lowerCurve t T (t .parent i)) w) (is-upper : u ≡ tab (upperCurve t T top (t .parent i)) w) where
-  abbrev lowerAt : ℕ → ℕ
-  lowerAt k = leafLower (T (k - t .delay i)) (getD l k 0) (t .memory (t .parent i))
-
-  abbrev upperAt : ℕ → ℕ
-  upperAt k = leafUpper (T (k - t .delay i)) (getD u k 0) (t .memory i)
-
-  lower-cell : (k : ℕ) → k < w → lowerAt k ≡ lowerCurve t T i k
-  lower-cell k h =
-      rw (ap (λ (x : List ℕ). getD x k 0) is-lower ∙ getD-tab (lowerCurve t T (t .parent i)) w k h) (leaf-lower-is t within T i k is-leaf is-link inner)
-
-  upper-cell : (k : ℕ) → k < w → upperAt k ≡ upperCurve t T top i k
-  upper-cell k h =
-      rw (ap (λ (x : List ℕ). getD x k 0) is-upper ∙ getD-tab (upperCurve t T top (t .parent i)) w k h) (leaf-upper-is t within T i k is-leaf is-link inner top)
-
-  pub fed-by-rows : ((k : ℕ) → k < w → lowerAt k ≤ upperAt k) → Fed t T top w i
-  fed-by-rows fine k h = omega (arith, fine k h, lower-cell k h, upper-cell k h)
-
-  pub starved-by-rows : (k : ℕ) → k < w → upperAt k < lowerAt k → Starves t T top w
-  starved-by-rows k h crosses = (i, is-leaf, k, h, omega (arith, lower-cell k h, upper-cell k h))
 
 -- ---- rows closed at every slot
 

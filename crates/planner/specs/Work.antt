@@ -16,13 +16,13 @@ use Rattle.planner.specs.declared.Answer.{Answer}
 use Rattle.planner.specs.declared.Answer.the-variants.{Refused, Planned}
 
 -- a job's struct, its sums, and two rows of the same width to work in
-pub record Ready (job : Job) (sums lowers uppers : List ℕ) : Type 0 where
+pub record Ready (job : Job) (sums lowers kept : List ℕ) : Type 0 where
   pub tree : TreeWithin (treeIn job)
   pub film : HoldsSums sums
   pub sums-to : length sums ≤ mostFrames + 1
   pub wide : 0 < length lowers
   pub slots-to : length lowers ≤ mostSlots
-  pub same : length uppers ≡ length lowers
+  pub same : length kept ≡ length lowers
 
 -- at leaf i lower is nowhere above upper, over slots 0 to w - 1
 abbrev pub Fed : Tree → (ℕ → ℕ) → ℕ → ℕ → ℕ → Type 0

@@ -28,9 +28,10 @@ pub enum Answer {
 }
 
 // The search for a starving leaf, which stops at the first leaf and slot found. A leaf below the root never starves; any other leaf's
-// curves come from its parent's, for which the two rows are room.
-fn starves(job: Job, sums: &[u64], lowers: &mut [u64], uppers: &mut [u64]) -> bool
-    requires { ⌜ Ready job (now sums) (now lowers) (now uppers) ⌝ }
+// lower curve comes from its parent's, for which the row is room. The most that a leaf may have is D + b here: no leaf has more by its
+// upper curve, and where no leaf needs more, lower is nowhere above upper.
+fn starves(job: Job, sums: &[u64], lowers: &mut [u64]) -> bool
+    requires { ⌜ TreeWithin (treeIn job) × HoldsSums (now sums) ⌝ }
     ensures { λ r. ⌜ (r ≡ true → Starves (treeIn job) (sumsIn (now (sums .entry))) (lastIn (now (sums .entry))) (length (now (lowers .entry)))) ⌝ }
     ensures { λ r. ⌜ (r ≡ false → AllFed (treeIn job) (sumsIn (now (sums .entry))) (lastIn (now (sums .entry))) (length (now (lowers .entry)))) ⌝ }
 {
@@ -42,13 +43,13 @@ fn starves(job: Job, sums: &[u64], lowers: &mut [u64], uppers: &mut [u64]) -> bo
         rest = base::without_lowest(rest);
         let u = job.parent[i];
         if u != 0 {
-            curves::both_rows(job, sums, near, u, lowers, uppers);
+            curves::keep_row(job, sums, near, u, lowers);
             near = u;
             let mut k = 0;
             while k < lowers.len() {
                 let plays = curves::played(sums, job.delay[i], k);
                 let lower = curves::leaf_lower(plays, lowers[k], job.memory[u]);
-                let upper = curves::leaf_upper(plays, uppers[k], job.memory[i]);
+                let upper = plays + job.memory[i];
                 if lower > upper {
                     found = true;
                     break 'search;
@@ -103,19 +104,19 @@ fn with_rows(
     job: Job,
     sums: &[u64],
     lowers: &mut [u64],
-    uppers: &mut [u64],
+    kept: &mut [u64],
     plan: &mut [u64],
     peaks: &mut [u64],
 ) -> Answer
-    requires { ⌜ Ready job (now sums) (now lowers) (now uppers) × ((length (now plan) ≡ (job .nodes - 1) * length (now lowers)) × (length (now peaks) ≡ job .nodes - 1)) ⌝ }
+    requires { ⌜ Ready job (now sums) (now lowers) (now kept) × ((length (now plan) ≡ (job .nodes - 1) * length (now lowers)) × (length (now peaks) ≡ job .nodes - 1)) ⌝ }
     ensures { λ r. ⌜ Worked r job (now (sums .entry)) (length (now (lowers .entry))) (now (plan .entry)) (now (plan .exit)) (now (peaks .entry)) (now (peaks .exit)) ⌝ }
 {
-    if starves(job, sums, lowers, uppers) {
+    if starves(job, sums, lowers) {
         return Answer::Refused(12);
     }
     let width = lowers.len();
     curves::upper_rows(job, sums, plan, width);
-    fill(job, sums, lowers, uppers, plan, peaks);
+    fill(job, sums, lowers, kept, plan, peaks);
     let parent = job.parent;
     let memory = job.memory;
     rows::close_rows(plan, lowers, &parent, &memory, job.nodes, width);
@@ -142,12 +143,12 @@ fn with_sums(job: Job, sums: &[u64], plan: &mut [u64], peaks: &mut [u64]) -> Ans
 {
     let width = job.last_slot() + 1;
     let mut lowers = row_room();
-    let mut uppers = row_room();
+    let mut kept = row_room();
     with_rows(
         job,
         sums,
         &mut lowers[0..width],
-        &mut uppers[0..width],
+        &mut kept[0..width],
         plan,
         peaks,
     )

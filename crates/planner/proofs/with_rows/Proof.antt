@@ -17,29 +17,26 @@ use Rattle.planner.proofs.starves.Reads as starves-reads
 use Rattle.rows.proofs.close_rows.Reads as close-rows-reads
 
 starves-requires : tie.Need-starves-requires
-starves-requires c κs = search needs
+starves-requires c κs = (c .before .before .before .before .before .before .pre .0 .tree, c .before .before .before .before .before .before .pre .0 .film)
 
 same-length : tie.Need-same-length
 same-length c = search needs
 
-same-length-2 : tie.Need-same-length-2
-same-length-2 c = search needs
-
 returns : tie.Need-returns
 unfolding Worked
-returns c = (refl, (c .before .before .before .before .before .starves .ensures .0 (c .if1 .taken), (refl, refl)))
+returns c = (refl, (c .before .before .before .starves .ensures .0 (c .if1 .taken), (refl, refl)))
 
 upper-rows-requires : tie.Need-upper-rows-requires
 upper-rows-requires c κs =
-    let st = c .before .before .before .before .before .before .before .before .before .before .before .before .before .before in
-    let s = c .before .before .before .before .before .before .starves in
+    let st = c .before .before .before .before .before .before .before .before .before .before .before in
+    let s = c .before .before .before .before .starves in
     let r = st .pre .0 in
     (r .tree, (r .film, (omega (arith, s .kept .1 .1 .0, r .slots-to), st .pre .1 .0 ∙ ap (λ (n : ℕ). (st .args .job .nodes - 1) * n) (sym (s .kept .1 .1 .0)))))
 
 fill-requires : tie.Need-fill-requires
 fill-requires c κs =
-    let st = c .before .before .before .before .before .before .before .before .before .before .before .before .before .before .before .before .before .before .before .before .before in
-    let s = c .before .before .before .before .before .before .before .before .before .before .before .before .before .starves in
+    let st = c .before .before .before .before .before .before .before .before .before .before .before .before .before .before .before .before .before .before in
+    let s = c .before .before .before .before .before .before .before .before .before .before .before .starves in
     let r = st .pre .0 in (
       record {
         tree = r .tree;
@@ -47,16 +44,16 @@ fill-requires c κs =
         sums-to = r .sums-to;
         wide = omega (arith, s .kept .1 .1 .0, r .wide);
         slots-to = omega (arith, s .kept .1 .1 .0, r .slots-to);
-        same = s .kept .1 .1 .1 .0 ∙ r .same ∙ sym (s .kept .1 .1 .0);
+        same = r .same ∙ sym (s .kept .1 .1 .0);
       },
       (c .before .before .before .before .before .before .upper-rows .ensures, st .pre .1 .1),
     )
 
 close-rows-requires : tie.Need-close-rows-requires
 close-rows-requires c κs =
-    let st = c .before .before .before .before .before .before .before .before .before .before .before .before .before .before .before .before .before .before .before .before .before .before .before .before .before .before .before .before .before .before .before .before .before .before .before .before in
+    let st = c .before .before .before .before .before .before .before .before .before .before .before .before .before .before .before .before .before .before .before .before .before .before .before .before .before .before .before .before .before .before .before .before .before in
     let f = c .before .before .before .before .before .before .before .before .before .before .before .before .before .before .fill in
-    let s = c .before .before .before .before .before .before .before .before .before .before .before .before .before .before .before .before .before .before .before .before .before .before .before .before .before .before .before .before .starves in
+    let s = c .before .before .before .before .before .before .before .before .before .before .before .before .before .before .before .before .before .before .before .before .before .before .before .before .before .before .starves in
     let r = st .pre .0 in (
       record {
         some-node = omega (arith, r .tree .nodes-from);
@@ -68,17 +65,20 @@ close-rows-requires c κs =
       f .kept .1 .1 .0,
     )
 
-sub-t32 : tie.Need-sub-t32
-sub-t32 c = omega (arith, c .before .before .before .before .before .before .before .before .before .before .before .before .before .before .before .before .before .before .before .before .before .before .before .before .before .before .before .before .before .before .before .before .before .starves .kept .1 .1 .0, c .before .before .before .before .before .before .before .before .before .before .before .before .before .before .before .before .before .before .before .before .before .before .before .before .before .before .before .before .before .before .before .before .before .before .before .before .before .before .before .before .before .pre .0 .wide)
+sub-t30 : tie.Need-sub-t30
+sub-t30 c = omega (arith, c .before .before .before .before .before .before .before .before .before .before .before .before .before .before .before .before .before .before .before .before .before .before .before .before .before .before .before .before .before .before .before .starves .kept .1 .1 .0, c .before .before .before .before .before .before .before .before .before .before .before .before .before .before .before .before .before .before .before .before .before .before .before .before .before .before .before .before .before .before .before .before .before .before .before .before .before .before .pre .0 .wide)
 
-sub-t35 : tie.Need-sub-t35
-sub-t35 c = c .before .before .before .before .before .before .before .before .before .before .before .before .before .before .before .before .before .before .before .before .before .before .before .before .before .before .before .before .before .before .before .before .before .before .before .before .before .before .before .before .before .pre .0 .film .some-sum
+sub-t33 : tie.Need-sub-t33
+sub-t33 c = c .before .before .before .before .before .before .before .before .before .before .before .before .before .before .before .before .before .before .before .before .before .before .before .before .before .before .before .before .before .before .before .before .before .before .before .before .before .before .pre .0 .film .some-sum
 
-mul-t36 : tie.Need-mul-t36
-mul-t36 c = omega (arith, c .before .before .before .before .before .before .before .before .before .before .before .before .before .before .before .before .before .before .before .before .before .before .before .before .before .before .before .before .before .before .before .before .before .before .before .before .before .before .before .before .before .pre .0 .sums-to)
+mul-t34 : tie.Need-mul-t34
+mul-t34 c = omega (arith, c .before .before .before .before .before .before .before .before .before .before .before .before .before .before .before .before .before .before .before .before .before .before .before .before .before .before .before .before .before .before .before .before .before .before .before .before .before .before .pre .0 .sums-to)
 
-shared-slice-read-t38 : tie.Need-shared-slice-read-t38
-shared-slice-read-t38 c = omega (arith, c .before .before .before .before .before .before .before .before .before .before .before .before .before .before .before .before .before .before .before .before .before .before .before .before .before .before .before .before .before .before .before .before .before .before .before .before .before .before .before .before .before .before .pre .0 .film .some-sum)
+shared-slice-read-t36 : tie.Need-shared-slice-read-t36
+shared-slice-read-t36 c = omega (arith, c .before .before .before .before .before .before .before .before .before .before .before .before .before .before .before .before .before .before .before .before .before .before .before .before .before .before .before .before .before .before .before .before .before .before .before .before .before .before .before .pre .0 .film .some-sum)
+
+same-length-2 : tie.Need-same-length-2
+same-length-2 c = search needs
 
 same-length-3 : tie.Need-same-length-3
 same-length-3 c = search needs
@@ -89,15 +89,12 @@ same-length-4 c = search needs
 same-length-5 : tie.Need-same-length-5
 same-length-5 c = search needs
 
-same-length-6 : tie.Need-same-length-6
-same-length-6 c = search needs
-
 returns-2 : tie.Need-returns-2
 unfolding Worked lastIn
 returns-2 c =
-    let st = c .before .before .before .before .before .before .before .before .before .before .before .before .before .before .before .before .before .before .before .before .before .before .before .before .before .before .before .before .before .before .before .before .before .before .before .before .before .before .before .before .before .before in
+    let st = c .before .before .before .before .before .before .before .before .before .before .before .before .before .before .before .before .before .before .before .before .before .before .before .before .before .before .before .before .before .before .before .before .before .before .before .before .before .before .before in
     let f = c .before .before .before .before .before .before .before .before .before .before .before .before .before .before .before .before .before .before .before .before .fill in
-    let s = c .before .before .before .before .before .before .before .before .before .before .before .before .before .before .before .before .before .before .before .before .before .before .before .before .before .before .before .before .before .before .before .before .before .before .starves in
+    let s = c .before .before .before .before .before .before .before .before .before .before .before .before .before .before .before .before .before .before .before .before .before .before .before .before .before .before .before .before .before .before .before .before .starves in
     let k = c .before .before .before .before .before .close-rows in
     let w = length (st .args .lowers .now) in
     let wide : length (s .last .1 .1 .0) ≡ w = s .kept .1 .1 .0 in
@@ -121,17 +118,16 @@ with-rows-spec =
     (tie.spec
     starves-requires
     same-length
-    same-length-2
     returns
     upper-rows-requires
     fill-requires
     close-rows-requires
-    sub-t32
-    sub-t35
-    mul-t36
-    shared-slice-read-t38
+    sub-t30
+    sub-t33
+    mul-t34
+    shared-slice-read-t36
+    same-length-2
     same-length-3
     same-length-4
     same-length-5
-    same-length-6
     returns-2)

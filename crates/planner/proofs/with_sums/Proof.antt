@@ -50,25 +50,25 @@ part-lowers-end c = omega (arith, width-is (c .before .before), width-fits (c .b
 sub-with-rows-2 : tie.Need-sub-with-rows-2
 sub-with-rows-2 c = search needs
 
-part-uppers-start : tie.Need-part-uppers-start
-part-uppers-start c = search needs
+part-kept-start : tie.Need-part-kept-start
+part-kept-start c = search needs
 
-part-uppers-end : tie.Need-part-uppers-end
-part-uppers-end c = omega (arith, width-is (c .before .before .before), width-fits (c .before .before .before), c .before .row-room2 .ensures)
+part-kept-end : tie.Need-part-kept-end
+part-kept-end c = omega (arith, width-is (c .before .before .before), width-fits (c .before .before .before), c .before .row-room2 .ensures)
 
 with-rows-requires : tie.Need-with-rows-requires
 with-rows-requires c κs =
     let st = c .before .before .before .before .before .before .before .before .before .before in
     let a = c .before .before .before .before .before .before in
     let lowers = cut a (c .before .before .before .before .before .row-room .result) (c .before .before .before .before .before .row-room .ensures) in
-    let uppers = cut a (c .before .before .before .before .row-room2 .result) (c .before .before .before .before .row-room2 .ensures) in (
+    let kept = cut a (c .before .before .before .before .row-room2 .result) (c .before .before .before .before .row-room2 .ensures) in (
       record {
         tree = st .pre .0;
         film = st .pre .1 .1 .0 .0;
         sums-to = st .pre .1 .1 .0 .1;
         wide = omega (arith, lowers);
         slots-to = omega (arith, lowers, width-fits a);
-        same = uppers ∙ sym lowers;
+        same = kept ∙ sym lowers;
       },
       (st .pre .1 .1 .1 .0 ∙ ap (λ (n : ℕ). (st .args .job .nodes - 1) * n) (sym lowers), st .pre .1 .1 .1 .1),
     )
@@ -96,8 +96,8 @@ with-sums-spec =
     part-lowers-start
     part-lowers-end
     sub-with-rows-2
-    part-uppers-start
-    part-uppers-end
+    part-kept-start
+    part-kept-end
     with-rows-requires
     same-length
     same-length-2

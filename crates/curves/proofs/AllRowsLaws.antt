@@ -18,11 +18,11 @@ use Rattle.smoothing.specs.Plan.{Problem, upper}
 use Rattle.smoothing.proofs.ClosedLaws.{open-monotone}
 use Rattle.rows.specs.Row.{InRange}
 use Rattle.rows.specs.Closing.{slotIn}
-use Rattle.curves.specs.Curves.{Film, plays, D, room, leastUp, lowerCurve, upperCurve, high, problem}
-use Rattle.curves.specs.Rows.{leastDelay, raised, lowered, roof, highRows, upperRows, leafLower, leafUpper}
-use Rattle.curves.proofs.LowerLaws.{parent-lower, D-leaf, lower-root, lower-step}
-use Rattle.curves.proofs.UpperLaws.{high-under, room-leaf, up-root, up-step}
-use Rattle.curves.proofs.CurveEq.{upper-is, D-starts, D-top, D-delay}
+use Rattle.curves.specs.Curves.{Film, lowerCurve, upperCurve, high, problem}
+use Rattle.curves.specs.Rows.{leastDelay, raised, lowered, roof, highRows, upperRows, leafLower}
+use Rattle.curves.proofs.LowerLaws.{parent-lower, D-leaf, lower-step}
+use Rattle.curves.proofs.UpperLaws.{high-under}
+use Rattle.curves.proofs.CurveEq.{upper-is, D-delay}
 use Rattle.curves.proofs.RowLaws.{zero-slot}
 
 -- ---- one row of what a link's own rules allow
@@ -113,37 +113,9 @@ module _ (t : Tree) (w : TreeWithin t) (T : ℕ → ℕ) (top : ℕ) (film : Fil
   pub near-other : tab (λ k. max (getD (tab (λ k. T (k - leastDelay t v)) n) k 0) (getD l k 0 - t .memory (t .parent v))) n ≡ tab (lowerCurve t T v) n
   near-other = tab-cong _ _ n (λ k h. omega (arith, from-parent k h, getD-tab (λ k. T (k - leastDelay t v)) n k h))
 
--- ---- a leaf's curves from its parent's
+-- ---- a leaf's lower curve from its parent's
 
 module _ (t : Tree) (w : TreeWithin t) (T : ℕ → ℕ) (i k : ℕ) (is-leaf : leaf t i ≡ true) (link : Link (t .n) i) (inner : t .parent i ≢ 0) where
   pub leaf-lower-is : leafLower (T (k - t .delay i)) (lowerCurve t T (t .parent i) k) (t .memory (t .parent i)) ≡ lowerCurve t T i k
   unfolding leafLower
   leaf-lower-is = omega (arith, lower-step t w T i k link inner, D-leaf t w T i k is-leaf)
-
-  pub leaf-upper-is : (top : ℕ) → leafUpper (T (k - t .delay i)) (upperCurve t T top (t .parent i) k) (t .memory i) ≡ upperCurve t T top i k
-  unfolding leafUpper upperCurve
-  leaf-upper-is top = go k
-    where
-      go : (k : ℕ) → leafUpper (T (k - t .delay i)) (upperCurve t T top (t .parent i) k) (t .memory i) ≡ upperCurve t T top i k
-      go zero = omega arith
-      go (suc k) =
-          omega (
-            arith,
-            up-step t w (λ a. room t T a (suc k)) i link inner,
-            room-leaf t w T i (suc k) is-leaf,
-            D-leaf t w T i (suc k) is-leaf,
-          )
-
--- a leaf below the root never starves
-pub root-leaf-fed : (t : Tree) (w : TreeWithin t) (T : ℕ → ℕ) (top : ℕ) → Film T top → (i : ℕ) → leaf t i ≡ true → Link (t .n) i → t .parent i ≡ 0
-    → (k : ℕ) → lowerCurve t T i k ≤ upperCurve t T top i k
-unfolding upperCurve
-root-leaf-fed t w T top film i e link z zero = omega (arith, lower-root t w T i 0 link z, D-starts t w T top 0 film i)
-root-leaf-fed t w T top film i e link z (suc k) =
-    omega (
-      arith,
-      lower-root t w T i (suc k) link z,
-      up-root t w (λ a. room t T a (suc k)) i link z,
-      room-leaf t w T i (suc k) e,
-      D-top t w T top 0 film i (suc k),
-    )

@@ -78,14 +78,6 @@ upperRows t T top w m = rowsOf (λ i. tab (upperCurve t T top (suc i)) w) m
 abbrev pub Kept : Tree → (ℕ → ℕ) → ℕ → List ℕ → Type 0
 Kept t T c l = (c < t .n) × (c ≢ 0 → l ≡ tab (lowerCurve t T c) (length l))
 
--- two such rows: the lower and the upper curve of node c
-abbrev pub KeptBoth : Tree → (ℕ → ℕ) → ℕ → ℕ → List ℕ → List ℕ → Type 0
-KeptBoth t T top c l u = Kept t T c l × (c ≢ 0 → u ≡ tab (upperCurve t T top c) (length u))
-
 -- a leaf's lower curve at a slot where it plays `plays` and its parent, with this memory, has the lower curve `above`
 unfoldable pub leafLower : ℕ → ℕ → ℕ → ℕ
 leafLower plays above memory = max plays (above - memory)
-
--- a leaf's upper curve at a slot where it plays `plays`, has this memory, and its parent has the upper curve `above`
-unfoldable pub leafUpper : ℕ → ℕ → ℕ → ℕ
-leafUpper plays above memory = min (plays + memory) above

@@ -12,7 +12,7 @@ ghost use Rattle.job.specs.Limits.{mostNodes, mostFrames, mostSlots, longestDel
 ghost use Rattle.job.specs.Tree.{TreeWithin, leaf};
 ghost use Rattle.job.specs.Read.{treeIn};
 ghost use Rattle.curves.specs.Curves.{sumsIn, lastIn, HoldsSums, lowerCurve, upperCurve, high};
-ghost use Rattle.curves.specs.Rows.{leastDelay, raised, lowered, atOrBelow, PathOf, apart, Nearest, allowedBy, allowed, roof, highRows, upperRows, Kept, KeptBoth, leafLower, leafUpper};
+ghost use Rattle.curves.specs.Rows.{leastDelay, raised, lowered, atOrBelow, PathOf, apart, Nearest, allowedBy, allowed, roof, highRows, upperRows, Kept, leafLower};
 use job::Job;
 use job::Node;
 
@@ -467,19 +467,6 @@ pub fn lower_near(
     u
 }
 
-// Two rows, which have the lower and the upper curve of node c, become those of node u. They may have anything where c is the root.
-pub fn both_rows(job: Job, sums: &[u64], c: usize, u: usize, lowers: &mut [u64], uppers: &mut [u64])
-    requires { ⌜ TreeWithin (treeIn job) × (((0 < u) × (u < job .nodes)) × (HoldsSums (now sums) × KeptBoth (treeIn job) (sumsIn (now sums)) (lastIn (now sums)) c (now lowers) (now uppers))) ⌝ }
-    ensures { λ _. ⌜ now (lowers .exit) ≡ tab (lowerCurve (treeIn job) (sumsIn (now (sums .entry))) u) (length (now (lowers .entry))) ⌝ }
-    ensures { λ _. ⌜ now (uppers .exit) ≡ tab (upperCurve (treeIn job) (sumsIn (now (sums .entry))) (lastIn (now (sums .entry))) u) (length (now (uppers .entry))) ⌝ }
-{
-    if c == u {
-        return;
-    }
-    keep_row(job, sums, c, u, lowers);
-    upper_row(job, sums, u, uppers);
-}
-
 // What a leaf with this delay plays by slot k.
 pub fn played(sums: &[u64], delay: usize, k: usize) -> u64
     requires { ⌜ 0 < length (now sums) ⌝ }
@@ -494,12 +481,4 @@ pub fn leaf_lower(plays: u64, above: u64, memory: u64) -> u64
     ensures { λ r. ⌜ r ≡ leafLower plays above memory ⌝ }
 {
     larger(plays, less_by(above, memory))
-}
-
-// A leaf's upper curve at a slot, from what it plays by then, its parent's upper curve there and its own memory.
-pub fn leaf_upper(plays: u64, above: u64, memory: u64) -> u64
-    requires { ⌜ (plays ≤ mostFrames * greatestFrame) × (memory ≤ greatestMemory) ⌝ }
-    ensures { λ r. ⌜ r ≡ leafUpper plays above memory ⌝ }
-{
-    smaller(plays + memory, above)
 }

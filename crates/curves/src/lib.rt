@@ -438,7 +438,8 @@ pub fn keep_row(job: Job, sums: &[u64], c: usize, u: usize, kept: &mut [u64])
 }
 
 // lower_v(0), lower_v(1), .. with the help of a row that is kept from link to link: it has the lower curve of node c before, and that of the
-// node returned after; anything where that node is the root. Where no leaf below the parent starts before those below v, `lower_row` costs least.
+// node returned after; anything where that node is the root. Where no ancestor has a leaf below it that starts before those below the
+// parent, `lower_row` takes in one row at most and costs least.
 pub fn lower_near(
     job: Job,
     sums: &[u64],
@@ -456,13 +457,13 @@ pub fn lower_near(
         lower_row(job, sums, v, out);
         return c;
     }
-    let delay = least_delay(job, v);
-    if delay <= least_delay(job, u) {
+    let path = path_up(job, v);
+    if least_delay(job, u) <= least_delay(job, path.top) {
         lower_row(job, sums, v, out);
         return c;
     }
     keep_row(job, sums, c, u, kept);
-    shift(out, sums, delay);
+    shift(out, sums, least_delay(job, v));
     raise_by(out, kept, job.memory[u]);
     u
 }

@@ -16,6 +16,7 @@ use Rattle.curves.proofs.lower_near.Lts as lts
 use Rattle.curves.proofs.keep_row.Reads as keep-row-reads
 use Rattle.curves.proofs.least_delay.Reads as least-delay-reads
 use Rattle.curves.proofs.lower_row.Reads as lower-row-reads
+use Rattle.curves.proofs.path_up.Reads as path-up-reads
 use Rattle.curves.proofs.raise_by.Reads as raise-by-reads
 use Rattle.curves.proofs.shift.Reads as shift-reads
 
@@ -34,13 +35,16 @@ same-length c = search needs
 returns : tie.Need-returns
 returns c = search needs
 
-least-delay-requires : tie.Need-least-delay-requires
-least-delay-requires c κs = search needs
+path-up-requires : tie.Need-path-up-requires
+path-up-requires c κs = search needs
 
-least-delay-requires-2 : tie.Need-least-delay-requires-2
-least-delay-requires-2 c κs =
+least-delay-requires : tie.Need-least-delay-requires
+least-delay-requires c κs =
     let st = c .before .before .before .before .before .before in
     (st .pre .0, omega (arith, parent-lower (treeIn (st .args .t1)) (st .pre .0) (st .args .v) (st .pre .1 .0), st .pre .1 .0))
+
+least-delay-requires-2 : tie.Need-least-delay-requires-2
+least-delay-requires-2 c κs = search needs
 
 lower-row-requires-2 : tie.Need-lower-row-requires-2
 lower-row-requires-2 c κs = search needs
@@ -53,7 +57,7 @@ returns-2 c = search needs
 
 keep-row-requires : tie.Need-keep-row-requires
 keep-row-requires c κs =
-    let st = c .before .before .before .before .before .before .before .before .before in (
+    let st = c .before .before .before .before .before .before .before .before .before .before in (
       st .pre .0,
       (
         (omega arith, omega (arith, parent-lower (treeIn (st .args .t1)) (st .pre .0) (st .args .v) (st .pre .1 .0), st .pre .1 .0)),
@@ -61,17 +65,20 @@ keep-row-requires c κs =
       ),
     )
 
+least-delay-requires-3 : tie.Need-least-delay-requires-3
+least-delay-requires-3 c κs = search needs
+
 shift-requires : tie.Need-shift-requires
 shift-requires c κs = search needs
 
 mul-raise-by : tie.Need-mul-raise-by
 mul-raise-by c =
-    let st = c .before .before .before .before .before .before .before .before .before .before .before .before .before .before .before .before .before .before in
+    let st = c .before .before .before .before .before .before .before .before .before .before .before .before .before .before .before .before .before .before .before .before in
     omega (arith, parent-lower (treeIn (st .args .t1)) (st .pre .0) (st .args .v) (st .pre .1 .0), st .pre .1 .0, st .pre .0 .nodes-to)
 
 element-copy-out-raise-by : tie.Need-element-copy-out-raise-by
 element-copy-out-raise-by c =
-    let st = c .before .before .before .before .before .before .before .before .before .before .before .before .before .before .before .before .before .before in
+    let st = c .before .before .before .before .before .before .before .before .before .before .before .before .before .before .before .before .before .before .before .before in
     omega (arith, parent-lower (treeIn (st .args .t1)) (st .pre .0) (st .args .v) (st .pre .1 .0), st .pre .1 .0, st .pre .0 .nodes-to)
 
 raise-by-requires : tie.Need-raise-by-requires
@@ -85,14 +92,14 @@ same-length-4 c = search needs
 
 returns-3 : tie.Need-returns-3
 returns-3 c =
-    let st = c .before .before .before .before .before .before .before .before .before .before .before .before .before .before .before .before .before .before .before .before .before .before in
+    let st = c .before .before .before .before .before .before .before .before .before .before .before .before .before .before .before .before .before .before .before .before .before .before .before .before in
     let a = st .args in
     let lower = parent-lower (treeIn (a .t1)) (st .pre .0) (a .v) (st .pre .1 .0) in
     let same = st .pre .1 .1 .1 .1 in
-    let row = c .before .before .before .before .before .before .before .before .before .before .before .before .keep-row .ensures in
+    let row = c .before .before .before .before .before .before .before .before .before .before .before .before .before .keep-row .ensures in
     let long = ap length row ∙ length-tab _ _ in
-    let near = near-other _ (st .pre .0) _ _ (film-of (a .sums .now) (st .pre .1 .1 .0)) (a .v) (st .pre .1 .0) (omega (arith, c .before .before .before .before .before .before .before .before .before .before .before .before .before .before .before .before .before .if1 .left)) (length (a .out .now)) _ (rw same at row) in (
-      c .before .before .raise-by .ensures ∙ rw (c .before .before .before .before .before .before .before .before .shift .ensures, c .before .before .before .before .before .before .before .before .before .before .before .before .before .before .before .before .least-delay .ensures, length-tab) near,
+    let near = near-other _ (st .pre .0) _ _ (film-of (a .sums .now) (st .pre .1 .1 .0)) (a .v) (st .pre .1 .0) (omega (arith, c .before .before .before .before .before .before .before .before .before .before .before .before .before .before .before .before .before .before .before .if1 .left)) (length (a .out .now)) _ (rw same at row) in (
+      c .before .before .raise-by .ensures ∙ rw (c .before .before .before .before .before .before .before .before .shift .ensures, c .before .before .before .before .before .before .before .before .before .least-delay3 .ensures, length-tab) near,
       (omega (arith, lower, st .pre .1 .0), λ ne. rw long row),
     )
 
@@ -105,12 +112,14 @@ lower-near-spec =
     lower-row-requires
     same-length
     returns
+    path-up-requires
     least-delay-requires
     least-delay-requires-2
     lower-row-requires-2
     same-length-2
     returns-2
     keep-row-requires
+    least-delay-requires-3
     shift-requires
     mul-raise-by
     element-copy-out-raise-by

@@ -8,7 +8,7 @@ use native.Mathlib.Omega.{arith}
 use native.Mathlib.Nat.{pow-suc}
 use native.Mathlib.Numerals.{add-one}
 use lib.Dec.{ltb}
-use lib.ListN.{getD, length, length-append, length-set, take, drop, set}
+use lib.ListN.{getD, length, length-append, List·getD-append, length-set, take, drop, set}
 use lib.Seq.{drop-cons, getD-set-same, drop-set-lt, length-take-le}
 use borrow.Author.Tests.{ltb-true, ltb-false, lt-ltb, le-ltb}
 use Rattle.base.proofs.BoolLaws.{true-or-false}
@@ -63,6 +63,53 @@ length-most (suc k) n h =
     (λ (e : ltb n 10 ≡ true). omega (arith, length-small n (ltb-true n 10 e)))
     (λ (e : ltb n 10 ≡ false). omega (arith, length-more n (ltb-false n 10 e), length-most k (n / 10) (omega (arith, h, pow-suc 10 (suc k)))))
     (true-or-false (ltb n 10))
+
+-- ---- what the digits say
+
+-- the number that these characters spell in decimal after others that spell n
+abbrev pub spelledAfter : ℕ → List ℕ → ℕ
+spelledAfter n [] = n
+spelledAfter n (x ∷ l) = spelledAfter (n * 10 + (x - 48)) l
+
+spelled-append : (n : ℕ) (l m : List ℕ) → spelledAfter n (l ++ m) ≡ spelledAfter (spelledAfter n l) m
+spelled-append n [] m = refl
+spelled-append n (x ∷ l) m = spelled-append (n * 10 + (x - 48)) l m
+
+within-spell : (f n : ℕ) → n < f → spelledAfter 0 (digitsWithin f n) ≡ n
+unfolding digitsWithin
+within-spell zero n h = absurd (omega arith)
+within-spell (suc f) n h =
+    ⊎-elim
+    (λ (e : ltb n 10 ≡ true). rw e (omega arith))
+    (λ (e : ltb n 10 ≡ false).
+    let d = digitsWithin f (n / 10) in
+    let front : spelledAfter 0 d ≡ n / 10 = within-spell f (n / 10) (omega (arith, ltb-false n 10 e)) in
+    rw (e, spelled-append 0 d (digit (n % 10) ∷ []), front) (omega arith))
+    (true-or-false (ltb n 10))
+
+-- a number's digits spell it
+pub digits-spell : (n : ℕ) → spelledAfter 0 (digits n) ≡ n
+unfolding digits
+digits-spell n = within-spell (suc n) n (omega arith)
+
+-- no zero stands before them
+within-lead : (f n : ℕ) → n < f → 0 < n → 48 < getD (digitsWithin f n) 0 0
+unfolding digits digitsWithin
+within-lead zero n h p = absurd (omega arith)
+within-lead (suc f) n h p =
+    ⊎-elim
+    (λ (e : ltb n 10 ≡ true). rw e (omega arith))
+    (λ (e : ltb n 10 ≡ false).
+    let d = digitsWithin f (n / 10) in
+    let same : d ≡ digits (n / 10) = enough f (suc (n / 10)) (n / 10) (omega (arith, ltb-false n 10 e)) (omega arith) in
+    let some : 0 < length d = rw same (length-some (n / 10)) in
+    rw (e, List·getD-append d (digit (n % 10) ∷ []) 0 0 some)
+    (within-lead f (n / 10) (omega (arith, ltb-false n 10 e)) (omega (arith, ltb-false n 10 e))))
+    (true-or-false (ltb n 10))
+
+pub digits-lead : (n : ℕ) → 0 < n → 48 < getD (digits n) 0 0
+unfolding digits
+digits-lead n = within-lead (suc n) n (omega arith)
 
 -- ---- the digits from the last one on
 

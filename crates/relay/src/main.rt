@@ -284,7 +284,9 @@ fn read_job(buf: &mut [u8]) -> Input
 fn show(bytes: &[u8]) {
     let mut text = text_room();
     let count = answer(bytes, &mut text);
-    io::write_all(1, &text[..count]);
+    if !io::write_all(1, &text[..count]) {
+        io::write_all(2, b"relay: the answer could not be written\n");
+    }
 }
 
 fn main() {

@@ -1,12 +1,8 @@
-use Rattle.relay.proofs.TextLaws.{adds-more, adds-as, alone-text}
 use native.Mathlib.Omega.{arith}
 use borrow.Author.Needs.{needs}
+use Rattle.relay.proofs.TextLaws.{adds-more, adds-as, alone-text}
 use Rattle.relay.proofs.add_alone.Statement.{statement}
 use Rattle.relay.proofs.add_alone.Tie as tie
-use Rattle.relay.proofs.add_alone.Reads as reads
-use Rattle.relay.proofs.add_alone.Lts as lts
-use Rattle.relay.proofs.add_byte.Reads as add-byte-reads
-use Rattle.relay.proofs.add_number.Reads as add-number-reads
 
 add-number-requires : tie.Need-add-number-requires
 add-number-requires c κs = search needs

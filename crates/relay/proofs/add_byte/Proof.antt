@@ -1,10 +1,7 @@
-use Rattle.relay.proofs.TextLaws.{adds-store}
-use native.Mathlib.Omega.{arith}
 use borrow.Author.Needs.{needs}
+use Rattle.relay.proofs.TextLaws.{adds-store}
 use Rattle.relay.proofs.add_byte.Statement.{statement}
 use Rattle.relay.proofs.add_byte.Tie as tie
-use Rattle.relay.proofs.add_byte.Reads as reads
-use Rattle.relay.proofs.add_byte.Lts as lts
 
 slice-write-out : tie.Need-slice-write-out
 slice-write-out c = search needs

@@ -1,13 +1,9 @@
-use Rattle.relay.proofs.TextLaws.{adds-more, adds-as, spaced-one}
 use mathlib.Core.Path.{sym}
 use native.Mathlib.Omega.{arith}
 use borrow.Author.Needs.{needs}
+use Rattle.relay.proofs.TextLaws.{adds-more, adds-as, spaced-one}
 use Rattle.relay.proofs.add_next.Statement.{statement}
 use Rattle.relay.proofs.add_next.Tie as tie
-use Rattle.relay.proofs.add_next.Reads as reads
-use Rattle.relay.proofs.add_next.Lts as lts
-use Rattle.relay.proofs.add_byte.Reads as add-byte-reads
-use Rattle.relay.proofs.add_number.Reads as add-number-reads
 
 add-byte-requires : tie.Need-add-byte-requires
 add-byte-requires c κs = search needs

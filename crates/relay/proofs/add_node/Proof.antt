@@ -1,14 +1,8 @@
-use Rattle.relay.proofs.TextLaws.{adds-more, adds-as, node-text}
 use native.Mathlib.Omega.{arith}
 use borrow.Author.Needs.{needs}
+use Rattle.relay.proofs.TextLaws.{adds-more, adds-as, node-text}
 use Rattle.relay.proofs.add_node.Statement.{statement}
 use Rattle.relay.proofs.add_node.Tie as tie
-use Rattle.relay.proofs.add_node.Reads as reads
-use Rattle.relay.proofs.add_node.Lts as lts
-use Rattle.relay.proofs.add_byte.Reads as add-byte-reads
-use Rattle.relay.proofs.add_next.Reads as add-next-reads
-use Rattle.relay.proofs.add_number.Reads as add-number-reads
-use Rattle.relay.proofs.add_row.Reads as add-row-reads
 
 add-number-requires : tie.Need-add-number-requires
 add-number-requires c κs = search needs

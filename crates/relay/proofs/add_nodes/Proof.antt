@@ -1,18 +1,14 @@
+use mathlib.Core.Path.{_≡_, refl, _∙_}
+use Prim.Native.Nat.{_+_, _-_, _*_, _≤_}
+use native.Mathlib.Omega.{arith}
+use lib.ListN.{length}
+use borrow.Author.Needs.{needs}
+use Rattle.base.specs.Table.{rowsOf}
 use Rattle.relay.proofs.TextLaws.{adds-none, adds-more, adds-as, row-most, line-fits, line-next, lines-more}
 use Rattle.relay.specs.Room.{nodeRoom, Adds, wordWidth}
 use Rattle.relay.specs.Text.{nodeLine}
-use Rattle.base.specs.Table.{rowsOf}
-use lib.ListN.{length, take}
-use Prim.Native.Nat.{_+_, _-_, _*_, _≤_}
-use mathlib.Core.Path.{_≡_, refl, _∙_}
-use borrow.Author.Needs.{needs}
-use native.Mathlib.Omega.{arith}
 use Rattle.relay.proofs.add_nodes.Statement.{statement}
 use Rattle.relay.proofs.add_nodes.Tie as tie
-use Rattle.relay.proofs.add_nodes.Reads as reads
-use Rattle.relay.proofs.add_nodes.Lts as lts
-use Rattle.planner.proofs.row_of.Reads as row-of-reads
-use Rattle.relay.proofs.add_node.Reads as add-node-reads
 
 abbrev Inv-loop : tie.InvT-loop
 Inv-loop bytes plan peaks out₀ at end₀ i₀ out end i = (i ≤ length peaks) × ((length out ≡ length out₀) × (Adds out₀ at (rowsOf (nodeLine bytes plan peaks) i) out end × (end ≤ at + i * nodeRoom bytes)))

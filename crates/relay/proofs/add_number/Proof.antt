@@ -1,11 +1,8 @@
-use Rattle.relay.proofs.TextLaws.{adds-part}
 use native.Mathlib.Omega.{arith}
 use borrow.Author.Needs.{needs}
+use Rattle.relay.proofs.TextLaws.{adds-part}
 use Rattle.relay.proofs.add_number.Statement.{statement}
 use Rattle.relay.proofs.add_number.Tie as tie
-use Rattle.relay.proofs.add_number.Reads as reads
-use Rattle.relay.proofs.add_number.Lts as lts
-use Rattle.relay.proofs.decimal.Reads as decimal-reads
 
 sub-decimal : tie.Need-sub-decimal
 sub-decimal c = search needs

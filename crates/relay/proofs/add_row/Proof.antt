@@ -1,17 +1,14 @@
-use Rattle.relay.proofs.TextLaws.{adds-none, adds-more, adds-as, spaced-more}
+use mathlib.Core.Path.{_≡_, refl, _∙_, sym}
+use Prim.Native.Nat.{_+_, _-_, _*_, _≤_}
+use native.Mathlib.Omega.{arith}
 use lib.Seq.{take-all}
+use lib.ListN.{length, take}
+use borrow.Author.Needs.{needs}
+use Rattle.relay.proofs.TextLaws.{adds-none, adds-more, adds-as, spaced-more}
 use Rattle.relay.specs.Room.{wordWidth, Adds}
 use Rattle.relay.specs.Text.{spaced}
-use lib.ListN.{length, take}
-use Prim.Native.Nat.{_+_, _-_, _*_, _≤_}
-use mathlib.Core.Path.{_≡_, refl, _∙_, sym}
-use borrow.Author.Needs.{needs}
-use native.Mathlib.Omega.{arith}
 use Rattle.relay.proofs.add_row.Statement.{statement}
 use Rattle.relay.proofs.add_row.Tie as tie
-use Rattle.relay.proofs.add_row.Reads as reads
-use Rattle.relay.proofs.add_row.Lts as lts
-use Rattle.relay.proofs.add_next.Reads as add-next-reads
 
 abbrev Inv-loop : tie.InvT-loop
 Inv-loop out₀ at row end₀ k₀ out end k = (k ≤ length row) × ((length out ≡ length out₀) × (Adds out₀ at (spaced (take k row)) out end × (end ≤ at + wordWidth * k)))

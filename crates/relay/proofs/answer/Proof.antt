@@ -1,22 +1,18 @@
-use Rattle.relay.proofs.PrintedLaws.{too-long, refused-job, too-large, asked}
+use mathlib.Core.Path.{_≡_, ap, _∙_}
+use mathlib.Core.List.{[]}
+use Prim.Native.Nat.{ℕ, _-_}
+use native.Mathlib.Omega.{arith}
+use borrow.Author.Needs.{needs}
+use Rattle.io.proofs.Counting.{counts}
 use Rattle.job.specs.Tree.{Tree, planLength}
 use Rattle.job.specs.Bytes.{frameAt, jobOf}
 use Rattle.job.specs.Refusal.{refusal}
 use Rattle.job.specs.declared.Reading.{Reading}
 use Rattle.job.proofs.RefusalLaws.{Accepted, read-accepts, refusedOr-number}
-use Rattle.io.proofs.Counting.{counts}
-use Prim.Native.Nat.{_-_}
-use mathlib.Core.Path.{_≡_, ap, _∙_}
-use native.Mathlib.Omega.{arith}
-use borrow.Author.Needs.{needs}
+use Rattle.relay.specs.Text.{line}
+use Rattle.relay.proofs.PrintedLaws.{too-long, refused-job, too-large, asked}
 use Rattle.relay.proofs.answer.Statement.{statement}
 use Rattle.relay.proofs.answer.Tie as tie
-use Rattle.relay.proofs.answer.Reads as reads
-use Rattle.relay.proofs.answer.Lts as lts
-use Rattle.job.proofs.Job.plan_length.Reads as plan-length-reads
-use Rattle.job.proofs.read.Reads as read-reads
-use Rattle.relay.proofs.add_alone.Reads as add-alone-reads
-use Rattle.relay.proofs.both.Reads as both-reads
 
 -- past the second test the job is accepted
 accepted : (c : tie.Else2) → Accepted (c .before .before .before .before .before .before .args .bytes .now) (c .before .before .read .result .job)
@@ -39,7 +35,7 @@ returns : tie.Need-returns
 returns c =
     let a = c .before .before .add-alone in
     let st = c .before .before .before .before .before .before .before in
-    (too-long (st .args .bytes .now) _ (c .before .before .before .before .if1 .taken) (a .ensures .0 .1), counts _ _ (omega (arith, a .ensures .1, a .kept .0, st .pre)))
+    (too-long (st .args .bytes .now) _ (omega (arith, c .before .before .before .before .if1 .taken)) (a .ensures .0 .1), counts _ _ (omega (arith, a .ensures .1, a .kept .0, st .pre)))
 
 read-requires : tie.Need-read-requires
 read-requires c κs = search needs
@@ -56,7 +52,7 @@ returns-2 c =
     let r = c .before .before .before .before .before .before in
     let st = c .before .before .before .before .before .before .before .before .before .before in
     let number = number-is r in (
-      refused-job (st .args .bytes .now) _ (omega (arith, c .before .before .before .before .before .before .before .if1 .left)) (λ z. c .before .before .before .before .if2 .taken (number ∙ z)) (rw number at (a .ensures .0 .1)),
+      refused-job (st .args .bytes .now) _ (omega (arith, c .before .before .before .before .before .before .before .if1 .left)) (λ z. c .before .before .before .before .if2 .taken (number ∙ z)) (a .ensures .0 .1 ∙ ap (λ (n : ℕ). line n []) number),
       counts _ _ (omega (arith, a .ensures .1, a .kept .0, st .pre)),
     )
 

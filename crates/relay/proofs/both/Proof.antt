@@ -1,12 +1,8 @@
-use Rattle.relay.proofs.PrintedLaws.{room-enough, both-added}
 use native.Mathlib.Omega.{arith}
 use borrow.Author.Needs.{needs}
+use Rattle.relay.proofs.PrintedLaws.{room-enough, both-added}
 use Rattle.relay.proofs.both.Statement.{statement}
 use Rattle.relay.proofs.both.Tie as tie
-use Rattle.relay.proofs.both.Reads as reads
-use Rattle.relay.proofs.both.Lts as lts
-use Rattle.relay.proofs.with_memories.Reads as with-memories-reads
-use Rattle.relay.proofs.with_plan.Reads as with-plan-reads
 
 with-plan-requires : tie.Need-with-plan-requires
 with-plan-requires c κs =

@@ -1,12 +1,8 @@
-use Rattle.relay.proofs.DecimalLaws.{digits-put}
 use native.Mathlib.Omega.{arith}
 use borrow.Author.Needs.{needs}
+use Rattle.relay.proofs.DecimalLaws.{digits-put}
 use Rattle.relay.proofs.decimal.Statement.{statement}
 use Rattle.relay.proofs.decimal.Tie as tie
-use Rattle.relay.proofs.decimal.Reads as reads
-use Rattle.relay.proofs.decimal.Lts as lts
-use Rattle.relay.proofs.places.Reads as places-reads
-use Rattle.relay.proofs.spell.Reads as spell-reads
 
 places-requires : tie.Need-places-requires
 places-requires c κs = search needs

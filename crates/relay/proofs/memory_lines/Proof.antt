@@ -1,20 +1,14 @@
+use mathlib.Core.Path.{_∙_}
+use native.Mathlib.Omega.{arith}
+use lib.ListN.{length}
+use borrow.Author.Needs.{needs}
+use Rattle.planner.specs.declared.Answer.the-variants.{Refused, Planned}
 use Rattle.relay.proofs.PrintedLaws.{nodes-fit, nodes-end}
 use Rattle.relay.proofs.TextLaws.{adds-more}
 use Rattle.relay.specs.Room.{nodeRoom}
 use Rattle.relay.specs.Text.{memoryText}
-use Rattle.planner.specs.declared.Answer.the-variants.{Refused, Planned}
-use lib.ListN.{length}
-use mathlib.Core.Path.{_∙_}
-use native.Mathlib.Omega.{arith}
-use borrow.Author.Needs.{needs}
 use Rattle.relay.proofs.memory_lines.Statement.{statement}
 use Rattle.relay.proofs.memory_lines.Tie as tie
-use Rattle.relay.proofs.memory_lines.Reads as reads
-use Rattle.relay.proofs.memory_lines.Lts as lts
-use Rattle.planner.proofs.memory_question.Reads as memory-question-reads
-use Rattle.relay.proofs.add_alone.Reads as add-alone-reads
-use Rattle.relay.proofs.add_given.Reads as add-given-reads
-use Rattle.relay.proofs.add_nodes.Reads as add-nodes-reads
 
 memory-question-requires : tie.Need-memory-question-requires
 memory-question-requires c κs = search needs

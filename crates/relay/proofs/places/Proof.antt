@@ -1,14 +1,12 @@
 use mathlib.Core.Path.{_≡_}
-use Prim.Native.Nat.{_+_, _≤_, _<_, _^_}
-use lib.ListN.{length}
-use Rattle.relay.specs.Decimal.{digits}
-use Rattle.relay.proofs.DecimalLaws.{length-more, length-small, length-some, length-most}
-use borrow.Author.Needs.{needs}
+use Prim.Native.Nat.{_+_, _≤_}
 use native.Mathlib.Omega.{arith}
+use lib.ListN.{length}
+use borrow.Author.Needs.{needs}
+use Rattle.relay.specs.Decimal.{digits}
+use Rattle.relay.proofs.DecimalLaws.{length-more, length-small, length-most}
 use Rattle.relay.proofs.places.Statement.{statement}
 use Rattle.relay.proofs.places.Tie as tie
-use Rattle.relay.proofs.places.Reads as reads
-use Rattle.relay.proofs.places.Lts as lts
 
 abbrev Inv-loop : tie.InvT-loop
 Inv-loop n k₀ rest₀ k rest = (k + length (digits rest) ≡ 1 + length (digits n)) × (length (digits n) ≤ 20)

@@ -1,15 +1,10 @@
-use Rattle.relay.specs.Text.{rateText}
-use Rattle.rates.specs.declared.Sizing.the-variants.{Refused, Sized}
 use mathlib.Core.Path.{refl}
 use native.Mathlib.Omega.{arith}
 use borrow.Author.Needs.{needs}
+use Rattle.rates.specs.declared.Sizing.the-variants.{Refused, Sized}
+use Rattle.relay.specs.Text.{rateText}
 use Rattle.relay.proofs.rate_line.Statement.{statement}
 use Rattle.relay.proofs.rate_line.Tie as tie
-use Rattle.relay.proofs.rate_line.Reads as reads
-use Rattle.relay.proofs.rate_line.Lts as lts
-use Rattle.rates.proofs.rate_question.Reads as rate-question-reads
-use Rattle.relay.proofs.add_alone.Reads as add-alone-reads
-use Rattle.relay.proofs.add_given.Reads as add-given-reads
 
 rate-question-requires : tie.Need-rate-question-requires
 rate-question-requires c κs = search needs

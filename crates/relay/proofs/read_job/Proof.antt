@@ -1,15 +1,11 @@
-use Rattle.io.proofs.Counting.{counts}
-use Prim.Native.Nat.{_+_, _≤_, _<_, _-_}
 use mathlib.Core.Path.{_≡_}
+use Prim.Native.Nat.{_≤_, _-_}
+use native.Mathlib.Omega.{arith}
 use lib.ListN.{length}
 use borrow.Author.Needs.{needs}
-use native.Mathlib.Omega.{arith}
+use Rattle.io.proofs.Counting.{counts}
 use Rattle.relay.proofs.read_job.Statement.{statement}
 use Rattle.relay.proofs.read_job.Tie as tie
-use Rattle.relay.proofs.read_job.Reads as reads
-use Rattle.relay.proofs.read_job.Lts as lts
-use Rattle.io.proofs.count.Reads as count-reads
-use Rattle.libc.proofs.read.Reads as read-reads
 
 abbrev Inv-loop : tie.InvT-loop
 Inv-loop buf₀ count₀ buf count = (count ≤ length buf) × (length buf ≡ length buf₀)

@@ -1,16 +1,14 @@
-use lib.Seq.{drop-length}
 use mathlib.Core.Path.{_≡_, refl, _∙_}
 use mathlib.Core.List.{_++_, append-nil}
-use Prim.Native.Nat.{_+_, _≤_, _<_, _^_, _-_, _%_}
+use Prim.Native.Nat.{_≤_, _-_, _%_}
+use native.Mathlib.Omega.{arith}
+use lib.Seq.{drop-length}
 use lib.ListN.{length, drop, length-set}
+use borrow.Author.Needs.{needs}
 use Rattle.relay.specs.Decimal.{lastDigits, digit}
 use Rattle.relay.proofs.DecimalLaws.{last-stored}
-use borrow.Author.Needs.{needs}
-use native.Mathlib.Omega.{arith}
 use Rattle.relay.proofs.spell.Statement.{statement}
 use Rattle.relay.proofs.spell.Tie as tie
-use Rattle.relay.proofs.spell.Reads as reads
-use Rattle.relay.proofs.spell.Lts as lts
 
 abbrev Inv-loop : tie.InvT-loop
 Inv-loop n out₀ i₀ rest₀ out i rest = (i ≤ length out) × ((length out ≡ length out₀) × (lastDigits i rest ++ drop i out ≡ lastDigits (length out₀) n))

@@ -2,6 +2,7 @@
 use mathlib.Core.Bool.{cond}
 use mathlib.Core.List.{List, [], _++_}
 use mathlib.Core.Path.{_≡_, refl, ap, sym, _∙_}
+use mathlib.Core.Logic.{⊎-elim}
 use Prim.Native.Nat.{ℕ, _+_, _-_, _*_, _≤_, _<_}
 use native.Mathlib.Omega.{arith}
 use lib.Dec.{ltb, eqb}
@@ -11,7 +12,12 @@ use borrow.Author.Tests.{lt-ltb, le-ltb, eq-eqb, ne-eqb}
 use Rattle.job.specs.Bytes.{jobOf}
 use Rattle.job.specs.Refusal.{refusal}
 use Rattle.job.specs.Tree.{H, planLength}
-use Rattle.relay.specs.Text.{line}
+use Rattle.planner.specs.Rules.{Keeps}
+use Rattle.planner.specs.Answer.{earlyRefusal, planIn, Answers}
+use Rattle.planner.proofs.AnswerLaws.{early-none}
+use Rattle.planner.specs.declared.Answer.{Answer}
+use Rattle.planner.specs.declared.Answer.the-variants.{Refused, Planned}
+use Rattle.relay.specs.Text.{line, memoryText}
 use Rattle.relay.specs.Printed.{mostBytes, mostPlanned, jobRefusal, MemoryLines, BothAnswers, Printed}
 use Rattle.relay.specs.Room.{wordWidth, mostLinks, memoryRoom, rateRoom, textRoom, Taken, RateAdded}
 
@@ -62,3 +68,53 @@ asked s text h r p b =
 pub both-added : (s l p : List ℕ) (a r : ℕ) → MemoryLines s (take a l) → RateAdded s l a p r → BothAnswers s (take r p)
 both-added s l p a r m q =
     record { memory-lines = take a l; rate-line = q .text; memory = m; rate = q .line; printed = q .added .1 }
+
+-- ---- the memory question's lines are settled by the bytes
+
+-- of an accepted job, lent outputs of the right length, only 12 is left to refuse with
+only-twelve : (s plan₀ plan₁ peaks₀ peaks₁ : List ℕ) (e : ℕ) → earlyRefusal s (length plan₀) (length peaks₀) ≡ 0
+    → Answers (Refused e) s plan₀ plan₁ peaks₀ peaks₁ → (e ≡ 12) × ((S : ℕ → ℕ → ℕ) → Keeps (jobOf s) S → ⊥)
+unfolding Answers
+only-twelve s plan₀ plan₁ peaks₀ peaks₁ e none a =
+    ⊎-elim (λ w. absurd (w .1 none)) (λ w. w .1) (a .1 .1)
+
+given-keeps : (s plan₀ plan₁ peaks₀ peaks₁ : List ℕ) (k l : ℕ) → Answers (Planned k l) s plan₀ plan₁ peaks₀ peaks₁
+    → Keeps (jobOf s) (planIn (jobOf s) plan₁)
+unfolding Answers
+given-keeps s plan₀ plan₁ peaks₀ peaks₁ k l a = a .1 .1 .1 .1 .0 .keeps
+
+-- two plans that are given are the rows that the curves define, and so are printed alike
+both-given : (s plan₀ plan₁ peaks₀ peaks₁ plan₂ plan₃ peaks₂ peaks₃ : List ℕ) (k l q r : ℕ)
+    → Answers (Planned k l) s plan₀ plan₁ peaks₀ peaks₁ → Answers (Planned q r) s plan₂ plan₃ peaks₂ peaks₃
+    → memoryText (Planned k l) s plan₁ peaks₁ ≡ memoryText (Planned q r) s plan₃ peaks₃
+unfolding Answers
+both-given s plan₀ plan₁ peaks₀ peaks₁ plan₂ plan₃ peaks₂ peaks₃ k l q r a b =
+    let last : k ≡ q = a .1 .0 ∙ sym (b .1 .0) in
+    let total : l ≡ r = a .1 .1 .0 ∙ sym (b .1 .1 .0) in
+    let plans : plan₁ ≡ plan₃ = a .1 .1 .1 .0 ∙ sym (b .1 .1 .1 .0) in
+    let peaks : peaks₁ ≡ peaks₃ = rw plans at (a .1 .1 .1 .1 .1) ∙ sym (b .1 .1 .1 .1 .1) in
+    rw (last, total, plans, peaks) refl
+
+text-settled : (s : List ℕ) (a b : Answer) (plan₀ plan₁ peaks₀ peaks₁ plan₂ plan₃ peaks₂ peaks₃ : List ℕ)
+    → earlyRefusal s (length plan₀) (length peaks₀) ≡ 0 → earlyRefusal s (length plan₂) (length peaks₂) ≡ 0
+    → Answers a s plan₀ plan₁ peaks₀ peaks₁ → Answers b s plan₂ plan₃ peaks₂ peaks₃
+    → memoryText a s plan₁ peaks₁ ≡ memoryText b s plan₃ peaks₃
+unfolding memoryText
+text-settled s (Refused e) (Refused f) plan₀ plan₁ peaks₀ peaks₁ plan₂ plan₃ peaks₂ peaks₃ n m a b =
+    rw (only-twelve s plan₀ plan₁ peaks₀ peaks₁ e n a .0, only-twelve s plan₂ plan₃ peaks₂ peaks₃ f m b .0) refl
+text-settled s (Refused e) (Planned k l) plan₀ plan₁ peaks₀ peaks₁ plan₂ plan₃ peaks₂ peaks₃ n m a b =
+    absurd (only-twelve s plan₀ plan₁ peaks₀ peaks₁ e n a .1 _ (given-keeps s plan₂ plan₃ peaks₂ peaks₃ k l b))
+text-settled s (Planned k l) (Refused f) plan₀ plan₁ peaks₀ peaks₁ plan₂ plan₃ peaks₂ peaks₃ n m a b =
+    absurd (only-twelve s plan₂ plan₃ peaks₂ peaks₃ f m b .1 _ (given-keeps s plan₀ plan₁ peaks₀ peaks₁ k l a))
+text-settled s (Planned k l) (Planned q r) plan₀ plan₁ peaks₀ peaks₁ plan₂ plan₃ peaks₂ peaks₃ n m a b =
+    both-given s plan₀ plan₁ peaks₀ peaks₁ plan₂ plan₃ peaks₂ peaks₃ k l q r a b
+
+-- two texts that are the lines of the memory question's answer are the same
+pub memory-settled : (s t u : List ℕ) → refusal s ≡ 0 → MemoryLines s t → MemoryLines s u → t ≡ u
+memory-settled s t u h m k =
+    m .printed
+    ∙ text-settled s (m .answer) (k .answer) (m .plan₀) (m .plan₁) (m .peaks₀) (m .peaks₁) (k .plan₀) (k .plan₁) (k .peaks₀) (k .peaks₁)
+    (early-none s (length (m .plan₀)) (length (m .peaks₀)) h (m .plan-long) (m .peaks-long))
+    (early-none s (length (k .plan₀)) (length (k .peaks₀)) h (k .plan-long) (k .peaks-long))
+    (m .answers) (k .answers)
+    ∙ sym (k .printed)

@@ -1,5 +1,5 @@
 -- The definitions computed on small inputs.
-use mathlib.Core.List.{List, [], _∷_, _++_}
+use mathlib.Core.List.{[], _∷_}
 use mathlib.Core.Path.{_≡_, refl}
 use Rattle.relay.specs.Decimal.{digitsWithin, digits}
 use Rattle.relay.specs.Text.{spaced, line}

@@ -1,13 +1,10 @@
 -- Laws of what is printed: that the room is enough, and which of the cases a job falls in.
-use mathlib.Core.Bool.{cond}
-use mathlib.Core.List.{List, [], _++_}
-use mathlib.Core.Path.{_≡_, refl, ap, sym, _∙_}
+use mathlib.Core.List.{List, []}
+use mathlib.Core.Path.{_≡_, refl, sym, _∙_}
 use mathlib.Core.Logic.{⊎-elim}
 use Prim.Native.Nat.{ℕ, _+_, _-_, _*_, _≤_, _<_}
 use native.Mathlib.Omega.{arith}
-use lib.Dec.{ltb, eqb}
 use lib.ListN.{length, take}
-use lib.Seq.{length-take-le}
 use borrow.Author.Tests.{lt-ltb, le-ltb, eq-eqb, ne-eqb}
 use Rattle.job.specs.Bytes.{jobOf}
 use Rattle.job.specs.Refusal.{refusal}
@@ -19,7 +16,7 @@ use Rattle.planner.specs.declared.Answer.{Answer}
 use Rattle.planner.specs.declared.Answer.the-variants.{Refused, Planned}
 use Rattle.relay.specs.Text.{line, memoryText}
 use Rattle.relay.specs.Printed.{mostBytes, mostPlanned, jobRefusal, MemoryLines, BothAnswers, Printed}
-use Rattle.relay.specs.Room.{wordWidth, mostLinks, memoryRoom, rateRoom, textRoom, Taken, RateAdded}
+use Rattle.relay.specs.Room.{wordWidth, memoryRoom, rateRoom, textRoom, Taken, RateAdded}
 
 -- ---- room
 

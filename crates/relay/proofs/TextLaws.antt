@@ -2,11 +2,11 @@
 use mathlib.Core.Bool.{Bool, true, false, cond, _&&_}
 use mathlib.Core.List.{List, [], _∷_, _++_, append-assoc, append-nil}
 use mathlib.Core.Path.{_≡_, refl, ap, sym, _∙_}
-use Prim.Native.Nat.{ℕ, zero, suc, _+_, _-_, _*_, _≤_, _<_}
+use Prim.Native.Nat.{ℕ, _+_, _-_, _*_, _≤_, _<_}
 use native.Mathlib.Omega.{arith}
 use native.Mathlib.Numerals.{add-one}
 use lib.ListN.{length, take, drop, getD, set, length-append, length-take}
-use lib.Seq.{take-suc-set, take-suc, take-length, take-at, length-take-le}
+use lib.Seq.{take-suc-set, take-suc, take-at, length-take-le}
 use lib.Dec.{eqb}
 use native.Mathlib.Nat.{suc-mul}
 use Rattle.base.specs.Table.{rowsOf}

@@ -5,7 +5,6 @@ use Prim.Native.Nat.{ℕ, _+_, _-_, _*_, _≤_}
 use lib.ListN.{length, take}
 use Rattle.job.specs.Tree.{H, planLength}
 use Rattle.job.specs.Bytes.{jobOf}
-use Rattle.job.specs.Refusal.{refusal}
 use Rattle.relay.specs.Printed.{mostPlanned, RateLine}
 
 -- the most digits of a 64-bit number, and the most characters of one with a space or a line end

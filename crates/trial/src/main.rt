@@ -1,9 +1,10 @@
 // Runs document 01's cases that are run and not proved: those that concern reading, with what each job is refused with (0: it is read),
-// and the first four cases of the memory question, in the form of the program's lines.
+// and rate 0 with a frame above 0; and beside them starred cases of both questions, in the form of the program's lines.
 ghost use mathlib.Core.Path.{_≡_};
 ghost use Prim.Native.Nat.{_<_};
 ghost use lib.ListN.{length};
 use planner::Answer;
+use rates::Sizing;
 
 // A root with n - 1 leaves under it and one frame; every field of the records and the frame is 0.
 fn star(n: u8) -> [u8; 1280]
@@ -119,6 +120,32 @@ fn show_late_q(one: u8, two: u8, three: u8) {
     show_plan(&job, &mut plan, &mut peaks);
 }
 
+fn show_sizes(job: &[u8], memories: &mut [u64]) {
+    match rates::rate_question(job, memories) {
+        Sizing::Refused(e) => {
+            number(e);
+            io::write_all(1, b"\n");
+        }
+        Sizing::Sized(delay, total) => {
+            io::write_all(1, b"0 ");
+            number(delay);
+            io::write_all(1, b" ");
+            number(total);
+            show_row(memories);
+        }
+    }
+}
+
+// Tree Q with these rates, each in the last byte of its record.
+fn show_rated_q(one: u8, two: u8, three: u8) {
+    let mut job = tree_q(0, 0, 0, 0);
+    job[28] = one;
+    job[47] = two;
+    job[66] = three;
+    let mut memories = [0u64; 3];
+    show_sizes(&job, &mut memories);
+}
+
 fn main() {
     // 10 bytes, 63 records of 19 and a frame of 4: 1,211 bytes; one record more: 1,230.
     show_star(b"n = 64", 64, 1211);
@@ -129,4 +156,7 @@ fn main() {
     show_q(6, 0, 6);
     show_late_q(4, 0, 6);
     show_late_q(4, 0, 5);
+    show_rated_q(5, 10, 4);
+    show_rated_q(0, 0, 0);
+    show_rated_q(5, 0, 4);
 }

@@ -1,7 +1,7 @@
 -- From the work on an accepted job to the rate question's answer.
 use mathlib.Core.List.{List}
 use mathlib.Core.Path.{_≡_, refl, ap, sym, _∙_}
-use mathlib.Core.Logic.{inr}
+use mathlib.Core.Logic.{inr, ⊎-elim}
 use Prim.Native.Nat.{ℕ, suc, _+_, _-_, _≤_, _<_}
 use native.Mathlib.Omega.{arith}
 use lib.Dec.{eqb}
@@ -22,7 +22,7 @@ use Rattle.writing.specs.PutBack.{putBack, memoriesIn}
 use Rattle.writing.proofs.AnswerLaws.{answered-bytes, answered-read}
 use Rattle.rates.specs.declared.Sizing.{Sizing}
 use Rattle.rates.specs.declared.Sizing.the-variants.{Refused, Sized}
-use Rattle.rates.specs.Rates.{startDelay, memory}
+use Rattle.rates.specs.Rates.{total, startDelay, memory}
 use Rattle.rates.specs.Answer.{earlyRefusal, Least, Sizes}
 use Rattle.rates.specs.Work.{Worked}
 use Rattle.rates.proofs.LeastLaws.{delay-least, none-serves, memory-serves, total-least, from-least, memory-fits, within-rates}
@@ -78,3 +78,44 @@ module _ (s : List ℕ) (job : Job) (acc : Accepted s job) (l l′ : List ℕ) (
   sized answer h =
       says answer
       (worked-at (treeIn job) (jobOf s .tree) (job .frames) (jobOf s .M) (sumsIn (tab (T (jobOf s)) (frameCount s + 1))) (T (jobOf s)) (acc .held) (acc .frames) (sums-of (jobOf s)) answer l l′ h)
+
+-- ---- the bytes settle the answer, and with it the memories
+
+-- with the same number of memories lent, any two answers that the contract allows are the same
+pub sizing-settled : (s : List ℕ) (a a′ : Sizing) (l l′ k k′ : List ℕ) → length l ≡ length k → Sizes a s l l′ → Sizes a′ s k k′ → a ≡ a′
+unfolding Sizes
+sizing-settled s (Refused e) (Refused e′) l l′ k k′ long one other =
+    ap Refused
+    (⊎-elim
+    (λ early. ⊎-elim
+    (λ early′. early .0 ∙ ap (earlyRefusal s) long ∙ sym (early′ .0))
+    (λ none. absurd (early .1 (ap (earlyRefusal s) long ∙ none .0)))
+    (other .1))
+    (λ none. ⊎-elim
+    (λ early. absurd (early .1 (ap (earlyRefusal s) (sym long) ∙ none .0)))
+    (λ none′. none .1 .0 ∙ sym (none′ .1 .0))
+    (other .1))
+    (one .1))
+sizing-settled s (Refused e) (Sized w all) l l′ k k′ long one other =
+    absurd
+    (⊎-elim
+    (λ early. early .1 (ap (earlyRefusal s) long ∙ other .0))
+    (λ none. none .1 .1 w (memoriesIn k′) (other .1 .0) (other .1 .1 .1 .1 .1 .serves))
+    (one .1))
+sizing-settled s (Sized w all) (Refused e) l l′ k k′ long one other =
+    absurd
+    (⊎-elim
+    (λ early. early .1 (ap (earlyRefusal s) (sym long) ∙ one .0))
+    (λ none. none .1 .1 w (memoriesIn l′) (one .1 .0) (one .1 .1 .1 .1 .1 .serves))
+    (other .1))
+sizing-settled s (Sized w all) (Sized w′ all′) l l′ k k′ long one other =
+    let j = jobOf s in
+    let same : w ≡ w′ = one .1 .1 .0 ∙ sym (other .1 .1 .0) in
+    let filled : l′ ≡ k′ = one .1 .1 .1 .0 ∙ ap (λ (d : ℕ). tab (λ i. memory (j .tree) (j .M) (T j) d (suc i)) (j .tree .n - 1)) same ∙ sym (other .1 .1 .1 .0) in
+    let totals : all ≡ all′ = one .1 .1 .1 .1 .0 ∙ ap (λ (x : List ℕ). total (j .tree) (memoriesIn x)) filled ∙ sym (other .1 .1 .1 .1 .0) in
+    rw (same, totals) refl
+
+-- and what an accepted job has filled is the same
+pub memories-settled : (s : List ℕ) (w all : ℕ) (l l′ k k′ : List ℕ) → Sizes (Sized w all) s l l′ → Sizes (Sized w all) s k k′ → l′ ≡ k′
+unfolding Sizes
+memories-settled s w all l l′ k k′ one other = one .1 .1 .1 .0 ∙ sym (other .1 .1 .1 .0)

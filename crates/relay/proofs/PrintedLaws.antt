@@ -1,6 +1,6 @@
 -- Laws of what is printed: that the room is enough, and which of the cases a job falls in.
 use mathlib.Core.List.{List, []}
-use mathlib.Core.Path.{_≡_, refl, sym, _∙_}
+use mathlib.Core.Path.{_≡_, refl, ap, sym, _∙_}
 use mathlib.Core.Logic.{⊎-elim}
 use Prim.Native.Nat.{ℕ, _+_, _-_, _*_, _≤_, _<_}
 use native.Mathlib.Omega.{arith}
@@ -14,8 +14,12 @@ use Rattle.planner.specs.Answer.{earlyRefusal, planIn, Answers}
 use Rattle.planner.proofs.AnswerLaws.{early-none}
 use Rattle.planner.specs.declared.Answer.{Answer}
 use Rattle.planner.specs.declared.Answer.the-variants.{Refused, Planned}
-use Rattle.relay.specs.Text.{line, memoryText}
-use Rattle.relay.specs.Printed.{mostBytes, mostPlanned, jobRefusal, MemoryLines, BothAnswers, Printed}
+use Rattle.rates.specs.Answer.{Sizes}
+use Rattle.rates.specs.declared.Sizing.{Sizing}
+use Rattle.rates.specs.declared.Sizing.the-variants as sizing
+use Rattle.rates.proofs.AnswerLaws.{sizing-settled, memories-settled}
+use Rattle.relay.specs.Text.{line, memoryText, rateText}
+use Rattle.relay.specs.Printed.{mostBytes, mostPlanned, jobRefusal, MemoryLines, RateLine, BothAnswers, Printed}
 use Rattle.relay.specs.Room.{wordWidth, memoryRoom, rateRoom, textRoom, Taken, RateAdded}
 
 -- ---- room
@@ -114,4 +118,19 @@ memory-settled s t u h m k =
     (early-none s (length (m .plan₀)) (length (m .peaks₀)) h (m .plan-long) (m .peaks-long))
     (early-none s (length (k .plan₀)) (length (k .peaks₀)) h (k .plan-long) (k .peaks-long))
     (m .answers) (k .answers)
+    ∙ sym (k .printed)
+
+-- ---- and so is the rate question's line
+
+same-sizing : (s : List ℕ) (a : Sizing) (l l′ k k′ : List ℕ) → Sizes a s l l′ → Sizes a s k k′ → rateText a l′ ≡ rateText a k′
+unfolding rateText
+same-sizing s (sizing.Refused e) l l′ k k′ one other = refl
+same-sizing s (sizing.Sized w all) l l′ k k′ one other = rw (memories-settled s w all l l′ k k′ one other) refl
+
+pub rate-settled : (s t u : List ℕ) → RateLine s t → RateLine s u → t ≡ u
+rate-settled s t u m k =
+    let same = sizing-settled s (m .sizing) (k .sizing) (m .memories₀) (m .memories₁) (k .memories₀) (k .memories₁) (m .memories-long ∙ sym (k .memories-long)) (m .answers) (k .answers) in
+    m .printed
+    ∙ ap (λ (a : Sizing). rateText a (m .memories₁)) same
+    ∙ same-sizing s (k .sizing) (m .memories₀) (m .memories₁) (k .memories₀) (k .memories₁) (rw same at (m .answers)) (k .answers)
     ∙ sym (k .printed)

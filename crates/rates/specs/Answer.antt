@@ -5,7 +5,7 @@ use mathlib.Core.Path.{_≡_}
 use mathlib.Core.Logic.{_⊎_}
 use Prim.Native.Nat.{ℕ, suc, _-_, _≤_}
 use lib.Dec.{eqb}
-use lib.ListN.{length}
+use lib.ListN.{length, getD}
 use Rattle.base.specs.Table.{tab}
 use Rattle.job.specs.Limits.{longestDelay}
 use Rattle.job.specs.Tree.{link, T, planLength}
@@ -48,7 +48,7 @@ pub record Least (s : List ℕ) (w : ℕ) (b : ℕ → ℕ) : Type 0 where
   pub put-back : (answer : Answer) (plan₀ plan₁ peaks₀ peaks₁ : List ℕ)
       → length plan₀ ≡ planLength (jobOf (putBack s w b)) → length peaks₀ ≡ jobOf s .tree .n - 1
       → Answers answer (putBack s w b) plan₀ plan₁ peaks₀ peaks₁
-      → (planner.numberOf answer ≡ 0) × ((i : ℕ) → link (jobOf s .tree .n) i ≡ true → memoriesIn peaks₁ i ≤ jobOf s .tree .rate i)
+      → (planner.numberOf answer ≡ 0) × ((i : ℕ) → link (jobOf s .tree .n) i ≡ true → getD peaks₁ (i - 1) 0 ≤ jobOf s .tree .rate i)
 
 -- The rate question's answer to bytes s, with the lent memories before and after it.
 -- Refused: the memories are as before; the number is the first of 1 to 11 that applies, or none of these does, it is 13 and no delay up to

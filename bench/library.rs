@@ -17,19 +17,14 @@ pub struct RateAnswer {
 }
 
 /// A running tree: its slot number, and what the link into each node has carried.
-#[repr(C)]
-#[derive(Clone, Copy)]
-pub struct Running {
-    pub slot: u64,
-    pub carried: [u64; 64],
-}
+/// A running tree: the slot number, and what each of the 64 places carries.
+pub type Running = [u64; 65];
 
 #[repr(C)]
 #[derive(Clone, Copy)]
 pub struct StepAnswer {
     pub number: u64,
     pub link: u64,
-    pub tree: Running,
 }
 
 extern "C" {
@@ -49,10 +44,9 @@ extern "C" {
         memories_len: usize,
     ) -> RateAnswer;
 
-    fn relay_start() -> Running;
-
     fn relay_step(
-        tree: Running,
+        tree: *mut u64,
+        tree_len: usize,
         job: *const u8,
         job_len: usize,
         plan: *const u64,
@@ -92,15 +86,9 @@ pub fn rate_question(job: &[u8], memories: &mut [u64]) -> RateAnswer {
     }
 }
 
-/// The first running tree.
-pub fn start() -> Running {
-    // SAFETY: nothing is lent.
-    unsafe { relay_start() }
-}
-
 /// A step of a running tree.
 pub fn step(
-    tree: Running,
+    tree: &mut Running,
     job: &[u8],
     plan: &[u64],
     sent: &mut [u64],
@@ -109,7 +97,8 @@ pub fn step(
     // SAFETY: each pointer comes with the length of the slice it was taken from.
     unsafe {
         relay_step(
-            tree,
+            tree.as_mut_ptr(),
+            tree.len(),
             job.as_ptr(),
             job.len(),
             plan.as_ptr(),

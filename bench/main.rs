@@ -185,15 +185,15 @@ fn time_rates() -> bool {
 /// once done, from its start again; nothing where some step is neither taken nor done.
 fn step_seconds(job: &Job, plan: &[u64], sent: &mut [u64], held: &mut [u64]) -> Option<f64> {
     let start = Instant::now();
-    let mut tree = library::start();
+    let mut tree = [0; 65];
     let mut taken = 0;
     loop {
-        let answer = library::step(tree, black_box(&job.bytes), plan, sent, held);
-        tree = match answer.number {
-            0 => answer.tree,
-            100 if tree.slot + 1 == job.slots as u64 => library::start(),
+        let answer = library::step(&mut tree, black_box(&job.bytes), plan, sent, held);
+        match answer.number {
+            0 => {}
+            100 if tree[0] + 1 == job.slots as u64 => tree = [0; 65],
             _ => return None,
-        };
+        }
         taken += 1;
         let elapsed = start.elapsed();
         if elapsed >= REPEAT {

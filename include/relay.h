@@ -115,26 +115,19 @@ uint64_t relay_put_back(
     const uint64_t *memories, size_t memories_length);
 
 /*
- * A running tree: the slot number, and at place i what the link into node i has
- * carried by the end of that slot. Places 0 and n to 63 have no link; steps keep
- * what stands there.
+ * How many numbers a running tree is: the slot number, and in place i after it
+ * what the link into node i has carried by the end of that slot. Places 0 and n to
+ * 63 have no link; steps keep what stands there. The first tree is all 0.
  */
-struct relay_running {
-    uint64_t slot;
-    uint64_t carried[64];
-};
-
-/* The running tree of the first step: slot 0, and nothing carried. */
-struct relay_running relay_start(void);
+#define RELAY_TREE_LENGTH 65
 
 /*
- * What a step gives: its number, the link that 14 names (0 with any other
- * number), and the running tree for the next step.
+ * What a step gives: its number, and the link that 14 names (0 with any other
+ * number).
  */
 struct relay_step_answer {
     uint64_t number;
     uint64_t link;
-    struct relay_running tree;
 };
 
 /*
@@ -142,17 +135,17 @@ struct relay_step_answer {
  * `tree`. Column 0 is never read. `plan` is laid out as the memory question fills
  * it, but any numbers may stand there, and any in `tree`.
  *
- * The number is 0 where the column is taken. The tree given then has that slot
- * and that column, `sent` holds for each of nodes 1 to n-1 in turn what its link
- * carries in the slot, and `held` what the node holds at its end: at a leaf what
- * it has been sent and not played, at an inner node what it has been sent and not
- * yet sent on to the child that has the least.
+ * The number is 0 where the column is taken. `tree` then has that slot and that
+ * column, `sent` holds for each of nodes 1 to n-1 in turn what its link carries in
+ * the slot, and `held` what the node holds at its end: at a leaf what it has been
+ * sent and not played, at an inner node what it has been sent and not yet sent on
+ * to the child that has the least.
  *
- * The number is else the first that applies, of 1 to 10 above and these, and the
- * tree given is `tree` and `sent` and `held` are as they were:
+ * The number is else the first that applies, of 1 to 10 above and these, and `tree`,
+ * `sent` and `held` are as they were:
  *
- *   11  `plan_length` is not (n-1)(H+1), or `sent_length` or `held_length` is
- *       not n-1
+ *   11  `tree_length` is not RELAY_TREE_LENGTH, `plan_length` is not (n-1)(H+1), or
+ *       `sent_length` or `held_length` is not n-1
  *  100  done: the slot number is H or later
  *   14  the column breaks a rule on the link into node `link`: it falls from
  *       what is carried or passes T(M), it is too little or too much for a leaf,
@@ -160,12 +153,13 @@ struct relay_step_answer {
  *       counts on the links into both
  *
  * `job` must point to at least `job_length` readable bytes, `plan` to at least
- * `plan_length` readable numbers, `sent` and `held` to at least `sent_length` and
- * `held_length` writable numbers. Neither `sent` nor `held` may overlap another
- * of the four. Nothing is kept. The call needs about 0.6 MB of stack.
+ * `plan_length` readable numbers, `tree`, `sent` and `held` to at least
+ * `tree_length`, `sent_length` and `held_length` writable numbers. None of the last
+ * three may overlap another of the five. Nothing is kept. The call needs about
+ * 0.6 MB of stack.
  */
 struct relay_step_answer relay_step(
-    struct relay_running tree,
+    uint64_t *tree, size_t tree_length,
     const uint8_t *job, size_t job_length,
     const uint64_t *plan, size_t plan_length,
     uint64_t *sent, size_t sent_length,

@@ -155,14 +155,13 @@ static void put_back(void)
 }
 
 /* A step that was not taken: the tree and the rows are as before. */
-static void expect_kept(const char *name, const struct relay_running *before,
-                        const struct relay_step_answer *answer,
+static void expect_kept(const char *name, const uint64_t *before,
+                        const uint64_t *tree,
                         const uint64_t *sent, const uint64_t *held)
 {
     static const uint64_t untouched[3] = { 91, 92, 93 };
 
-    expect(name, before->slot, answer->tree.slot);
-    expect_all(name, before->carried, answer->tree.carried, 64);
+    expect_all(name, before, tree, RELAY_TREE_LENGTH);
     expect_all(name, untouched, sent, 3);
     expect_all(name, untouched, held, 3);
 }
@@ -174,76 +173,87 @@ static void run_to_the_end(void)
     static const uint64_t held_due[4][3] = {
         { 3, 0, 5 }, { 4, 0, 6 }, { 1, 0, 0 }, { 0, 0, 0 }
     };
-    struct relay_running tree = relay_start();
+    uint64_t tree[RELAY_TREE_LENGTH] = { 0 };
+    uint64_t last[RELAY_TREE_LENGTH];
     struct relay_step_answer answer;
     size_t slot, i;
 
-    expect("first tree, slot", 0, tree.slot);
-    for (i = 0; i < 64; i++) {
-        expect("first tree, carried", 0, tree.carried[i]);
-    }
-    tree.carried[0] = 71;
-    tree.carried[4] = 72;
-    tree.carried[63] = 73;
+    tree[1 + 0] = 71;
+    tree[1 + 4] = 72;
+    tree[1 + 63] = 73;
     for (slot = 1; slot <= 4; slot++) {
         uint64_t sent[3] = { 91, 92, 93 };
         uint64_t held[3] = { 91, 92, 93 };
 
-        answer = relay_step(tree, tree_q, sizeof tree_q, tree_q_plan, 15,
-                            sent, 3, held, 3);
+        answer = relay_step(tree, RELAY_TREE_LENGTH, tree_q, sizeof tree_q,
+                            tree_q_plan, 15, sent, 3, held, 3);
         expect("step, number", 0, answer.number);
         expect("step, link", 0, answer.link);
-        expect("step, slot", slot, answer.tree.slot);
+        expect("step, slot", slot, tree[0]);
         for (i = 0; i < 3; i++) {
-            expect("step, carried", tree_q_plan[5 * i + slot],
-                   answer.tree.carried[i + 1]);
+            expect("step, carried", tree_q_plan[5 * i + slot], tree[1 + i + 1]);
             expect("step, sent", tree_q_plan[5 * i + slot] -
                    tree_q_plan[5 * i + slot - 1], sent[i]);
         }
         expect_all("step, held", held_due[slot - 1], held, 3);
-        expect("step, place 0", 71, answer.tree.carried[0]);
-        expect("step, place 4", 72, answer.tree.carried[4]);
-        expect("step, place 63", 73, answer.tree.carried[63]);
-        tree = answer.tree;
+        expect("step, place 0", 71, tree[1 + 0]);
+        expect("step, place 4", 72, tree[1 + 4]);
+        expect("step, place 63", 73, tree[1 + 63]);
     }
+    memcpy(last, tree, sizeof last);
     for (i = 0; i < 2; i++) {
         uint64_t sent[3] = { 91, 92, 93 };
         uint64_t held[3] = { 91, 92, 93 };
 
-        answer = relay_step(tree, tree_q, sizeof tree_q, tree_q_plan, 15,
-                            sent, 3, held, 3);
+        answer = relay_step(tree, RELAY_TREE_LENGTH, tree_q, sizeof tree_q,
+                            tree_q_plan, 15, sent, 3, held, 3);
         expect("done, number", 100, answer.number);
         expect("done, link", 0, answer.link);
-        expect_kept("done", &tree, &answer, sent, held);
+        expect_kept("done", last, tree, sent, held);
     }
 }
 
-/* Steps that are refused: the bytes, a length, a rule on one link. */
-static void refused_steps(void)
+/* A step that is refused: its number and its link, and nothing lent changes. */
+static void refused_step(const char *name, size_t tree_length, size_t job_length,
+                         size_t held_length, uint64_t number, uint64_t link)
 {
     uint64_t plan[15];
     uint64_t sent[3] = { 91, 92, 93 };
     uint64_t held[3] = { 91, 92, 93 };
-    struct relay_running tree = relay_start();
+    uint64_t before[RELAY_TREE_LENGTH + 1];
+    uint64_t tree[RELAY_TREE_LENGTH + 1];
     struct relay_step_answer answer;
+    size_t i;
 
     memcpy(plan, tree_q_plan, sizeof plan);
     plan[6] = 3; /* Leaf 2 has 4 to play by slot 1. */
+    for (i = 0; i <= RELAY_TREE_LENGTH; i++) {
+        before[i] = 0;
+    }
+    before[1 + 0] = 71;
+    before[1 + 63] = 73;
+    before[RELAY_TREE_LENGTH] = 74;
+    memcpy(tree, before, sizeof tree);
 
-    answer = relay_step(tree, tree_q, 9, plan, 15, sent, 3, held, 3);
-    expect("short job, number", 1, answer.number);
-    expect("short job, link", 0, answer.link);
-    expect_kept("short job", &tree, &answer, sent, held);
+    answer = relay_step(tree, tree_length, tree_q, job_length, plan, 15, sent, 3,
+                        held, held_length);
+    expect(name, number, answer.number);
+    expect(name, link, answer.link);
+    expect_kept(name, before, tree, sent, held);
+    expect(name, 74, tree[RELAY_TREE_LENGTH]);
+}
 
-    answer = relay_step(tree, tree_q, sizeof tree_q, plan, 15, sent, 3, held, 2);
-    expect("short row, number", 11, answer.number);
-    expect("short row, link", 0, answer.link);
-    expect_kept("short row", &tree, &answer, sent, held);
+static void refused_steps(void)
+{
+    const size_t all = RELAY_TREE_LENGTH, job = sizeof tree_q;
 
-    answer = relay_step(tree, tree_q, sizeof tree_q, plan, 15, sent, 3, held, 3);
-    expect("starved leaf, number", 14, answer.number);
-    expect("starved leaf, link", 2, answer.link);
-    expect_kept("starved leaf", &tree, &answer, sent, held);
+    refused_step("short job", all, 9, 3, 1, 0);
+    refused_step("short job and tree", all - 1, 9, 3, 1, 0);
+    refused_step("short tree", all - 1, job, 3, 11, 0);
+    refused_step("long tree", all + 1, job, 3, 11, 0);
+    refused_step("no tree", 0, job, 3, 11, 0);
+    refused_step("short row", all, job, 2, 11, 0);
+    refused_step("starved leaf", all, job, 3, 14, 2);
 }
 
 int main(void)

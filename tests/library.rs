@@ -22,7 +22,7 @@ pub struct RateAnswer {
 /// Places of a running tree.
 pub const PLACES: usize = 64;
 
-#[repr(C)]
+/// A running tree; the library has it as its slot number and its places in turn.
 #[derive(Clone, Copy, PartialEq, Eq, Hash)]
 pub struct Running {
     pub slot: u64,
@@ -30,6 +30,11 @@ pub struct Running {
 }
 
 #[repr(C)]
+struct StepNumbers {
+    number: u64,
+    link: u64,
+}
+
 #[derive(Clone, Copy, PartialEq, Eq)]
 pub struct StepAnswer {
     pub number: u64,
@@ -64,10 +69,9 @@ extern "C" {
         memories_length: usize,
     ) -> u64;
 
-    fn relay_start() -> Running;
-
     fn relay_step(
-        tree: Running,
+        tree: *mut u64,
+        tree_length: usize,
         job: *const u8,
         job_length: usize,
         plan: *const u64,
@@ -76,7 +80,7 @@ extern "C" {
         sent_length: usize,
         held: *mut u64,
         held_length: usize,
-    ) -> StepAnswer;
+    ) -> StepNumbers;
 }
 
 /// A buffer and the part of it that is lent.
@@ -133,13 +137,18 @@ pub fn put_back(job: Part<u8>, delay: u64, memories: Part<u64>) -> u64 {
     unsafe { relay_put_back(job, job_length, delay, memories, memories_length) }
 }
 
-/// The library's first running tree.
+/// The first running tree: slot 0, and nothing carried.
 pub fn start() -> Running {
-    // SAFETY: nothing is lent.
-    unsafe { relay_start() }
+    Running {
+        slot: 0,
+        carried: [0; 64],
+    }
 }
 
-/// The library's step of a running tree.
+/// Words on both sides of the lent tree, which the library must leave alone.
+const GUARDS: [u64; 2] = [0x6c65_6674_7472_6565, 0x7269_6768_7472_6565];
+
+/// The library's step of a running tree, which is lent as its 65 numbers.
 ///
 /// The job and the plan are lent mutably, so that a write by the library, which
 /// would be a fault, can be seen by the caller.
@@ -150,15 +159,44 @@ pub fn step(
     sent: Part<u64>,
     held: Part<u64>,
 ) -> StepAnswer {
+    let mut numbers = [0; 67];
+    numbers[0] = GUARDS[0];
+    numbers[1] = tree.slot;
+    numbers[2..66].copy_from_slice(&tree.carried);
+    numbers[66] = GUARDS[1];
+    let (number, link) = step_lent((&mut numbers, 1..66), job, plan, sent, held);
+    assert_eq!([numbers[0], numbers[66]], GUARDS, "beside the lent tree");
+    let mut carried = [0; 64];
+    carried.copy_from_slice(&numbers[2..66]);
+    StepAnswer {
+        number,
+        link,
+        tree: Running {
+            slot: numbers[1],
+            carried,
+        },
+    }
+}
+
+/// The library's step of a tree of any length of numbers: the number and the link.
+pub fn step_lent(
+    tree: Part<u64>,
+    job: Part<u8>,
+    plan: Part<u64>,
+    sent: Part<u64>,
+    held: Part<u64>,
+) -> (u64, u64) {
+    let (tree, tree_length) = lend(tree);
     let (job, job_length) = lend(job);
     let (plan, plan_length) = lend(plan);
     let (sent, sent_length) = lend(sent);
     let (held, held_length) = lend(held);
     // SAFETY: each part lies within its buffer, and the buffers do not overlap,
     // as each is lent mutably for the whole call.
-    unsafe {
+    let answer = unsafe {
         relay_step(
             tree,
+            tree_length,
             job,
             job_length,
             plan,
@@ -168,5 +206,6 @@ pub fn step(
             held,
             held_length,
         )
-    }
+    };
+    (answer.number, answer.link)
 }

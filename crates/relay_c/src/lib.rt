@@ -1,17 +1,19 @@
 // The C interface, declared to C in include/relay.h: thin calls, each with the whole contract of the function that it calls.
 ghost use mathlib.Core.Path.{_≡_};
 ghost use mathlib.Core.Bool.{cond};
+ghost use lib.ListN.{length};
+ghost use Rattle.base.specs.Table.{tab};
+ghost use Rattle.job.specs.Steps.{orElse};
 ghost use lib.Dec.{eqb};
 ghost use Rattle.job.specs.Bytes.{jobOf};
 ghost use Rattle.job.specs.Refusal.{refusal};
 ghost use Rattle.planner.specs.Answer.{Answers};
 ghost use Rattle.planner.specs.declared.Answer as planner;
-ghost use Rattle.running.specs.Running.{start, Stepped, numberOf, linkOf};
-ghost use Rattle.running.specs.declared.Outcome as running;
 ghost use Rattle.rates.specs.Answer.{Sizes};
 ghost use Rattle.rates.specs.declared.Sizing as rates;
 ghost use Rattle.writing.specs.PutBack.{putBack, answeredJob, memoriesIn, putBackRefusal};
-ghost use Rattle.relay_c.specs.Numbers.{memoryNumbers, rateNumbers};
+ghost use Rattle.relay_c.specs.Numbers.{memoryNumbers, rateNumbers, stepNumbers, stateLength, treeFrom, numberAt, StepSays};
+use job::Job;
 use planner::Answer;
 use rates::Sizing;
 use running::Outcome;
@@ -93,54 +95,92 @@ pub extern "C" fn relay_put_back(job: &mut [u8], delay: u64, memories: &[u64]) -
     writing::put_back(job, delay, memories)
 }
 
-// What a step gives: the number and the link of its outcome, and the running tree that it hands on.
+// What a step gives: the number of its outcome, and the link that 14 names.
 #[repr(C)]
 pub struct StepAnswer {
     pub number: u64,
     pub link: u64,
-    pub tree: Running,
 }
 
-// The number and the link of an outcome, with a running tree.
-fn step_answer(tree: Running, outcome: Outcome) -> StepAnswer
-    ensures { λ r. ⌜ r ≡ record { number = numberOf outcome; link = linkOf outcome; tree = tree } ⌝ }
+// The number and the link of an outcome.
+fn step_answer(outcome: Outcome) -> StepAnswer
+    ensures { λ r. ⌜ r ≡ stepNumbers outcome ⌝ }
 {
     match outcome {
-        Outcome::Taken => StepAnswer {
-            number: 0,
-            link: 0,
-            tree,
-        },
+        Outcome::Taken => StepAnswer { number: 0, link: 0 },
         Outcome::Done => StepAnswer {
             number: 100,
             link: 0,
-            tree,
         },
-        Outcome::Refused(number, link) => StepAnswer { number, link, tree },
+        Outcome::Refused(number, link) => StepAnswer { number, link },
     }
 }
 
-// A step of a running tree: an outcome and a next tree that the contract of `step` allows, by its numbers.
+// How many numbers a running tree is in C: the slot number and a place for each node.
+const STATE: usize = Job::MOST_NODES + 1;
+
+// The running tree that lent numbers say.
+fn tree_from(numbers: &[u64]) -> Running
+    requires { ⌜ length (now numbers) ≡ stateLength ⌝ }
+    ensures { λ r. ⌜ r ≡ treeFrom (now (numbers .entry)) ⌝ }
+{
+    let mut carried = [0u64; Job::MOST_NODES];
+    let mut i = 0;
+    while i < Job::MOST_NODES {
+        carried[i] = numbers[i + 1];
+        i += 1;
+    }
+    Running {
+        slot: numbers[0],
+        carried,
+    }
+}
+
+// The numbers of a running tree, into lent ones.
+fn tree_into(tree: Running, numbers: &mut [u64])
+    requires { ⌜ length (now numbers) ≡ stateLength ⌝ }
+    ensures { λ _. ⌜ now (numbers .exit) ≡ tab (numberAt tree) stateLength ⌝ }
+{
+    let carried = tree.carried;
+    numbers[0] = tree.slot;
+    let mut i = 0;
+    while i < Job::MOST_NODES {
+        numbers[i + 1] = carried[i];
+        i += 1;
+    }
+}
+
+// The refusal of a step that was not lent the numbers of a running tree: 1 to 10 come before 11.
+fn no_tree(job: &[u8]) -> StepAnswer
+    ensures { λ r. ⌜ r ≡ record { number = orElse (refusal (now (job .entry))) 11; link = 0 } ⌝ }
+{
+    let number = job::refusal(job);
+    if number != 0 {
+        return StepAnswer { number, link: 0 };
+    }
+    StepAnswer {
+        number: 11,
+        link: 0,
+    }
+}
+
+// A step of a running tree that is lent as its numbers.
 #[no_mangle]
 pub extern "C" fn relay_step(
-    tree: Running,
+    tree: &mut [u64],
     job: &[u8],
     plan: &[u64],
     sent: &mut [u64],
     held: &mut [u64],
 ) -> StepAnswer
-    ensures { λ r. ⌜ ((o : running.Outcome) × (Stepped o (now (job .entry)) (now (plan .entry)) tree (r .tree) (now (sent .entry)) (now (sent .exit)) (now (held .entry)) (now (held .exit)) × ((r .number ≡ numberOf o) × (r .link ≡ linkOf o)))) ⌝ }
+    ensures { λ r. ⌜ StepSays r (now (job .entry)) (now (plan .entry)) (now (tree .entry)) (now (tree .exit)) (now (sent .entry)) (now (sent .exit)) (now (held .entry)) (now (held .exit)) ⌝ }
 {
-    let step = tree.step(job, plan, sent, held);
+    if tree.len() != STATE {
+        return no_tree(job);
+    }
+    let step = tree_from(tree).step(job, plan, sent, held);
     let next = step.state;
     let outcome = step.outcome;
-    step_answer(next, outcome)
-}
-
-// The running tree of the first step: slot 0, and nothing carried.
-#[no_mangle]
-pub extern "C" fn relay_start() -> Running
-    ensures { λ r. ⌜ r ≡ start ⌝ }
-{
-    Running::start()
+    tree_into(next, tree);
+    step_answer(outcome)
 }

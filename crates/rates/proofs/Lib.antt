@@ -4,7 +4,9 @@ pub mod TheoryLaws
 pub mod ServeLaws
 pub mod LeastLaws
 pub mod NeedLaws
+pub mod MarkLaws
 pub mod WalkLaws
 pub mod WorkLaws
+pub mod FloorLaws
 pub mod AnswerLaws
 pub mod StarredLaws

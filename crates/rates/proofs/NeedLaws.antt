@@ -1,9 +1,11 @@
 -- A need found in one pass forward over the frames: the most that what is played gets ahead of the floor rate.
+use mathlib.Core.Logic.{⊎-elim, inl, inr}
+use lib.ListN.{length, getD}
+use mathlib.Core.List.{List}
 use mathlib.Core.Path.{_≡_, refl, ap, fun-ext, _∙_}
-use Prim.Native.Nat.{ℕ, zero, suc, _+_, _-_, _*_, _≤_, _<_, max, min}
+use Prim.Native.Nat.{ℕ, zero, suc, _+_, _-_, _*_, _≤_, _<_, max}
 use native.Mathlib.Omega.{arith}
 use native.Mathlib.Decide.{ℕ-discrete}
-use native.Mathlib.Nat.{mul-le-mul-left}
 use Rattle.job.specs.Tree.{Tree, TreeWithin}
 use Rattle.smoothing.specs.Row.{lazy}
 use Rattle.smoothing.specs.Rates as theory
@@ -12,8 +14,8 @@ use Rattle.smoothing.proofs.LazyLaws.{lazy-above, lazy-rises, lazy-under}
 use Rattle.smoothing.proofs.NeedLaws.{need-above, need-least, need-delay}
 use Rattle.curves.specs.Curves.{Film}
 use Rattle.rates.specs.Rates.{floorRate, need}
-use Rattle.rates.specs.Work.{ahead, mostAhead, level, slotOf, PassedTo}
-use Rattle.rates.specs.declared.Pass.{Pass}
+use Rattle.rates.specs.Work.{ahead, mostAhead, furtherOf, LeadAt, Low, Step, Marks}
+use Rattle.rates.specs.declared.Lead.{Lead}
 use Rattle.rates.proofs.TheoryLaws.{question, good, floor-is, need-is}
 
 module _ (T : ℕ → ℕ) (grows : (m : ℕ) → T m ≤ T (suc m)) (q : ℕ) where
@@ -83,49 +85,75 @@ module _ (T : ℕ → ℕ) (grows : (m : ℕ) → T m ≤ T (suc m)) (q : ℕ) w
       (λ i h. ahead-least i x
       (λ k l. omega (arith, lazy-above M q T i h, rise-over M q (lazy M q T) (lazy-rises M q T) k i l h, each k (omega arith))))
 
--- ---- the pass
+-- ---- a step of the pass
 
-module _ (T : ℕ → ℕ) (grows : (m k : ℕ) → m ≤ k → T m ≤ T k) (r M : ℕ) where
-  pub pass-start : T 0 ≡ 0 → PassedTo T r M 0 (record { low = r * M; most = 0 })
-  unfolding ahead mostAhead
-  pass-start z = let e : M - 0 ≡ M = omega arith in record { lowest = rw (e, z) (omega arith); so-far = refl }
+module _ (T : ℕ → ℕ) (grows : (m k : ℕ) → m ≤ k → T m ≤ T k) (r : ℕ) where
+  up : (m : ℕ) → T m ≤ T (suc m)
+  up m = grows m (suc m) (omega arith)
 
-  pub pass-slot : (m : ℕ) (p : Pass) → m < M → PassedTo T r M m p → PassedTo T r M (suc m) (slotOf p (level T r M (suc m)))
+  -- where no frame is larger than r, what is ahead only falls
+  record Fallen (a d : ℕ) : Type 0 where
+    left : ahead T r (a + d) ≡ ahead T r a + (T (a + d) - T a) - r * d
+    less : ahead T r (a + d) ≤ ahead T r a
+    most : mostAhead T r (a + d) ≡ mostAhead T r a
+
+  fallen : (a d : ℕ) → Low T r a (a + d) → Fallen a d
   unfolding ahead mostAhead
-  pass-slot m p h at =
-      let e : M - m ≡ suc (M - suc m) = omega arith in
-      let more : r * (M - m) ≡ r * (M - suc m) + r = rw e (omega arith) in
-      let up = grows m (suc m) (omega arith) in
+  fallen a zero low =
+      let e : a + 0 ≡ a = omega arith in
+      let z : r * 0 ≡ 0 = omega arith in
+      record { left = rw (e, z) (omega arith); less = rw e (omega arith); most = rw e refl }
+  fallen a (suc d) low =
+      let e : a + suc d ≡ suc (a + d) = omega arith in
+      let ih = fallen a d (λ m h l. low m h (omega arith)) in
+      let frame : T (suc (a + d)) ≤ T (a + d) + r = low (a + d) (omega arith) (omega arith) in
+      let less : ahead T r (a + d) + (T (suc (a + d)) - T (a + d)) - r ≤ ahead T r a = omega (arith, ih .less, frame) in
+      let t : r * suc d ≡ r * d + r = omega arith in
       record {
-        lowest = omega (arith, at .lowest, more, up);
-        so-far =
-            let now : level T r M (suc m) - min (p .low) (level T r M (suc m)) ≡ ahead T r m + (T (suc m) - T m) - r = omega (arith, at .lowest, more, up) in
-            rw (at .so-far, now) refl;
+        left = rw (e, t) (omega (arith, ih .left, frame, up (a + d), grows a (a + d) (omega arith)));
+        less = rw e less;
+        most = rw e (omega (arith, ih .most, less, most-above T up r a a (omega arith)));
       }
 
-  -- where no level between two slots is below the lowest or above it by more than the most, nothing changes
-  pub pass-over : (from to : ℕ) (p : Pass) → from ≤ to → to ≤ M → p .low ≤ T from + r * (M - to) → T to + r * (M - from) ≤ p .low + p .most
-      → PassedTo T r M from p → PassedTo T r M to p
-  pass-over from to p h l low high at = go (to - from) to (omega arith) (omega arith)
-    where
-      go : (d k : ℕ) → k ≡ from + d → k ≤ to → PassedTo T r M k p
-      go zero k e q = let z : k ≡ from = omega arith in rw z at
-      go (suc d) zero e q = absurd (omega arith)
-      go (suc d) (suc k) e q =
-          let y = level T r M (suc k) in
-          let later : M - to ≤ M - suc k = omega arith in
-          let sooner : M - suc k ≤ M - from = omega arith in
-          let floor = mul-le-mul-left r later in
-          let roof = mul-le-mul-left r sooner in
-          let lower : min (p .low) y ≡ p .low = omega (arith, low, floor, grows from (suc k) (omega arith)) in
-          let most : max (p .most) (y - p .low) ≡ p .most = omega (arith, high, roof, grows (suc k) to (omega arith)) in
-          let step : PassedTo T r M (suc k) (record { low = min (p .low) y; most = max (p .most) (y - min (p .low) y) }) = pass-slot k p (omega arith) (go d k (omega arith) (omega arith)) in
-          record { lowest = rw lower at (step .lowest); so-far = rw (lower, most) at (step .so-far) }
+  pub lead-start : LeadAt T r 0 (record { ahead = 0; most = 0 })
+  unfolding ahead mostAhead
+  lead-start = record { so-much = refl; so-far = refl }
 
-  -- a pass's numbers are small
-  pub pass-small : (m : ℕ) (p : Pass) → PassedTo T r M m p → (p .low ≤ level T r M m) × (p .most ≤ T m)
-  pass-small m p at =
-      (omega (arith, at .lowest), omega (arith, at .so-far, most-under T (λ k. grows k (suc k) (omega arith)) r m))
+  pub lead-step : (a b : ℕ) (p : Lead) → Step T r a b → LeadAt T r a p → LeadAt T r b (furtherOf p (T b - T a) (b - a) r)
+  unfolding ahead mostAhead
+  lead-step a b p (h, way) at = ⊎-elim one many way
+    where
+      one : b ≡ suc a → LeadAt T r b (furtherOf p (T b - T a) (b - a) r)
+      one e =
+          let d : suc a - a ≡ 1 = omega arith in
+          let z : r * 1 ≡ r = omega arith in
+          rw (e, d, z, at .so-much, at .so-far) (record { so-much = refl; so-far = refl })
+
+      many : Low T r a b → LeadAt T r b (furtherOf p (T b - T a) (b - a) r)
+      many low =
+          let e : a + (b - a) ≡ b = omega arith in
+          let f = fallen a (b - a) (rw e low) in
+          let left = rw e at (f .left) in
+          record {
+            so-much = rw (at .so-much) (omega (arith, left));
+            so-far = rw (at .so-much, at .so-far) (omega (arith, left, rw e at (f .less), rw e at (f .most), most-above T up r a a (omega arith)));
+          }
+
+  -- a lead is no more than is played
+  pub lead-small : (m : ℕ) (p : Lead) → LeadAt T r m p → p .ahead ≤ T m
+  lead-small m p at = omega (arith, at .so-much, ahead-under T up r m)
+
+-- a higher rate can take the same steps
+pub marks-higher : (T : ℕ → ℕ) (low r M : ℕ) (places : List ℕ) (k : ℕ) → low ≤ r → Marks T low M places k → Marks T r M places k
+marks-higher T low r M places k h marks =
+    record {
+      some-place = marks .some-place;
+      few = marks .few;
+      starts = marks .starts;
+      ends = marks .ends;
+      inside = marks .inside;
+      steps = λ j l. let (q, way) = marks .steps j l in (q, ⊎-elim (λ e. inl e) (λ w. inr (λ m a b. omega (arith, h, w m a b))) way);
+    }
 
 -- ---- the need
 

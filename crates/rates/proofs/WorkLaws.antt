@@ -20,7 +20,7 @@ use Rattle.curves.specs.Curves.{Film, sumsIn, lastIn, HoldsSums}
 use Rattle.curves.proofs.SumsLaws.{film-of, sum-fits}
 use Rattle.writing.specs.PutBack.{memoriesIn}
 use Rattle.rates.specs.Rates.{atOrBelow, total, floorRate, leastRate, need, memory}
-use Rattle.rates.specs.Work.{mostAhead, needsOf, Needs, memoryBy}
+use Rattle.rates.specs.Work.{needOf, needsOf, Needs, memoryBy}
 use Rattle.rates.proofs.TheoryLaws.{question, good, need-is}
 use Rattle.rates.proofs.NeedLaws.{most-under, need-ahead}
 
@@ -59,7 +59,7 @@ module _ (t : Tree) (tree : TreeWithin t) (sums : List ℕ) (holds : HoldsSums s
   pub need-at : (w i : ℕ) → link (t .n) i ≡ true → getD (needsOf t sums) i 0 ≡ need t M (sumsIn sums) w i
   need-at w i h =
       let (p, q) = link-in (t .n) i h in
-      let f : ℕ → ℕ = λ v. mostAhead (sumsIn sums) (floorRate t v) (length sums - 1) in
+      let f : ℕ → ℕ = λ v. needOf sums (floorRate t v) in
       let ends : length sums - 1 ≡ M = omega arith in
       getD-tab (perNode (t .n) f) mostNodes i (omega (arith, tree .nodes-to))
       ∙ perNode-in (t .n) f i p q

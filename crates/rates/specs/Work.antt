@@ -1,18 +1,20 @@
 -- What the rate question's inner functions are handed and give.
 use mathlib.Core.Bool.{true, cond}
 use mathlib.Core.List.{List}
+use mathlib.Core.Logic.{_⊎_}
 use mathlib.Core.Path.{_≡_}
-use Prim.Native.Nat.{ℕ, zero, suc, _+_, _-_, _*_, _≤_, _<_, max, min}
+use Prim.Native.Nat.{ℕ, zero, suc, _+_, _-_, _*_, _≤_, _<_, max}
 use lib.ListN.{length, getD}
 use Rattle.base.specs.Range.{leastOver}
 use Rattle.base.specs.Table.{tab}
 use Rattle.job.specs.Limits.{mostNodes, mostFrames, longestDelay, greatestRate, greatestTotal}
 use Rattle.job.specs.Tree.{Tree, link, child, leaf}
 use Rattle.job.specs.Bytes.{perNode}
-use Rattle.curves.specs.Curves.{sumsIn, HoldsSums}
+use Rattle.curves.specs.Curves.{sumsIn}
 use Rattle.writing.specs.PutBack.{memoriesIn}
-use Rattle.rates.specs.Rates.{total, floorRate, startDelay, memory}
-use Rattle.rates.specs.declared.Pass.{Pass}
+use Rattle.rates.specs.Rates.{total, floorRate, leastRate, startDelay, memory}
+use Rattle.rates.specs.declared.Lead.{Lead}
+use Rattle.rates.specs.declared.Four.{Four}
 use Rattle.rates.specs.declared.Sizing.{Sizing}
 use Rattle.rates.specs.declared.Sizing.the-variants.{Refused, Sized}
 
@@ -27,26 +29,57 @@ unfoldable pub mostAhead : (ℕ → ℕ) → ℕ → ℕ → ℕ
 mostAhead T r zero = 0
 mostAhead T r (suc m) = max (mostAhead T r m) (ahead T r (suc m))
 
--- the level of slot m: what is played by m, and what a link at rate r still carries from there to the last slot M
-abbrev pub level : (ℕ → ℕ) → ℕ → ℕ → ℕ → ℕ
-level T r M m = T m + r * (M - m)
+-- a lead some slots further, in which so much is played and r a slot is carried
+abbrev pub furtherOf : Lead → ℕ → ℕ → ℕ → Lead
+furtherOf p played slots r = record { ahead = p .ahead + played - r * slots; most = max (p .most) (p .ahead + played - r * slots) }
 
--- a pass one slot further, to a slot of level y: the lowest level, and the most that a level is above the lowest one up to it
-abbrev pub slotOf : Pass → ℕ → Pass
-slotOf p y = record { low = min (p .low) y; most = max (p .most) (y - min (p .low) y) }
-
--- a pass has come to slot m: it has the lowest level, above which the level of m is by what is ahead, and the most that was ahead
-pub record PassedTo (T : ℕ → ℕ) (r M m : ℕ) (p : Pass) : Type 0 where
-  pub lowest : p .low + ahead T r m ≡ level T r M m
+-- a lead is that at slot m
+pub record LeadAt (T : ℕ → ℕ) (r m : ℕ) (p : Lead) : Type 0 where
+  pub so-much : p .ahead ≡ ahead T r m
   pub so-far : p .most ≡ mostAhead T r m
 
--- sums, a rate, and two slots to pass between
-pub record Passable (sums : List ℕ) (r from to : ℕ) : Type 0 where
-  pub film : HoldsSums sums
-  pub short : length sums ≤ mostFrames + 1
+-- no frame between slots a and b is larger than r
+abbrev pub Low : (ℕ → ℕ) → ℕ → ℕ → ℕ → Type 0
+Low T r a b = (m : ℕ) → a ≤ m → m < b → T (suc m) ≤ T m + r
+
+-- from a to b in one step: one slot, or slots in which nothing gets ahead
+abbrev pub Step : (ℕ → ℕ) → ℕ → ℕ → ℕ → Type 0
+Step T r a b = (a < b) × ((b ≡ suc a) ⊎ Low T r a b)
+
+-- k places lead from slot 0 to slot M by steps
+pub record Marks (T : ℕ → ℕ) (r M : ℕ) (places : List ℕ) (k : ℕ) : Type 0 where
+  pub some-place : 0 < k
+  pub few : k ≤ suc M
+  pub starts : getD places 0 0 ≡ 0
+  pub ends : getD places (k - 1) 0 ≡ M
+  pub inside : (j : ℕ) → j < k → getD places j 0 ≤ M
+  pub steps : (j : ℕ) → suc j < k → Step T r (getD places j 0) (getD places (suc j) 0)
+
+-- for rate r, over the sums T(0) to T(M)
+pub record Marked (sums places : List ℕ) (k r : ℕ) : Type 0 where
+  pub marks : Marks (sumsIn sums) r (length sums - 1) places k
   pub rate : r ≤ greatestRate
-  pub forth : from ≤ to
-  pub within : to < length sums
+
+-- one more than k, or k where neither frame is larger than r
+pub record Kept (k last frame r k′ : ℕ) : Type 0 where
+  pub from : k ≤ k′
+  pub to : k′ ≤ k + 1
+  pub low : k′ ≡ k → (last ≤ r) × (frame ≤ r)
+
+-- the need at rate r
+abbrev pub needOf : List ℕ → ℕ → ℕ
+needOf sums r = mostAhead (sumsIn sums) r (length sums - 1)
+
+abbrev pub fourOf : (ℕ → ℕ) → Four → Four
+fourOf f r = record { a = f (r .a); b = f (r .b); c = f (r .c); d = f (r .d) }
+
+-- the floor rate of each link's node below n is among the first `count` rates, at the node's place; no rate is less than the least
+pub record FloorsOf (t : Tree) (n : ℕ) (rates : List ℕ) (count : ℕ) (place : List ℕ) : Type 0 where
+  pub few : count ≤ mostNodes
+  pub placed : (i : ℕ) → link n i ≡ true → getD place i 0 < count
+  pub right : (i : ℕ) → link n i ≡ true → getD rates (getD place i 0) 0 ≡ floorRate t i
+  pub least : (u : ℕ) → u < mostNodes → leastRate t ≤ getD rates u 0
+  pub greatest : (u : ℕ) → u < mostNodes → getD rates u 0 ≤ greatestRate
 
 -- x is the least delay from w on with T ≤ r × (m + x); one more than the longest delay where none up to that is
 pub record Later (T r m w x : ℕ) : Type 0 where
@@ -57,7 +90,7 @@ pub record Later (T r m w x : ℕ) : Type 0 where
 
 -- the need of each node at its place, from the sums T(0) to T(M)
 abbrev pub needsOf : Tree → List ℕ → List ℕ
-needsOf t sums = tab (perNode (t .n) (λ i. mostAhead (sumsIn sums) (floorRate t i) (length sums - 1))) mostNodes
+needsOf t sums = tab (perNode (t .n) (λ i. needOf sums (floorRate t i))) mostNodes
 
 -- what is asked of a list of needs: none is more than a film, and no child's is more than its parent's
 pub record Needs (t : Tree) (needs : List ℕ) : Type 0 where

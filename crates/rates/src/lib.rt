@@ -7,16 +7,16 @@ ghost use lib.ListN.{length, getD};
 ghost use Rattle.base.specs.Range.{fold, first};
 ghost use Rattle.base.specs.Set.{has, wordBits};
 ghost use Rattle.base.specs.Table.{tab};
-ghost use Rattle.job.specs.Limits.{mostFrames, longestDelay, greatestRate, greatestTotal};
+ghost use Rattle.job.specs.Limits.{mostNodes, mostFrames, longestDelay, greatestRate, greatestTotal};
 ghost use Rattle.job.specs.Tree as tree;
 ghost use Rattle.job.specs.Tree.{TreeWithin, link};
-ghost use Rattle.job.specs.Bytes.{frameCount, jobOf};
+ghost use Rattle.job.specs.Bytes.{perNode, frameCount, jobOf};
 ghost use Rattle.job.specs.Read.{treeIn};
 ghost use Rattle.job.proofs.RefusalLaws.{Accepted};
 ghost use Rattle.curves.specs.Curves.{sumsIn, HoldsSums};
 ghost use Rattle.rates.specs.Rates.{total, floorRate, leastRate, inTime};
 ghost use Rattle.rates.specs.Answer.{Sizes};
-ghost use Rattle.rates.specs.Work.{mostAhead, slotOf, Passable, PassedTo, Later, needsOf, Needs, memoryBy, Worked};
+ghost use Rattle.rates.specs.Work.{Later, furtherOf, Kept, Marks, Marked, needOf, fourOf, FloorsOf, needsOf, Needs, memoryBy, Worked};
 use job::Job;
 use job::Node;
 
@@ -98,86 +98,210 @@ fn start_delay(sums: &[u64], r: u64) -> u64
     w
 }
 
-// Where a pass over the frames stands, whose greatest excess is a need: specs/Work says what the two numbers are.
-pub struct Pass {
-    pub low: u64,
+// How far what is played is ahead of a rate, and the most that it has been, up to some slot: specs/Work says what the two numbers are.
+pub struct Lead {
+    pub ahead: u64,
     pub most: u64,
 }
 
-// One slot further, to the slot with this level.
-fn slot(pass: Pass, level: u64) -> Pass
-    ensures { λ p. ⌜ p ≡ slotOf pass level ⌝ }
+// Four numbers: rates or needs.
+pub struct Four {
+    pub a: u64,
+    pub b: u64,
+    pub c: u64,
+    pub d: u64,
+}
+
+// The different floor rates, how many they are, and where each node's is.
+pub struct Floors {
+    pub rates: [u64; Job::MOST_NODES],
+    pub count: usize,
+    pub place: [usize; Job::MOST_NODES],
+}
+
+// By how much a is more than b.
+fn over(a: u64, b: u64) -> u64
+    ensures { λ r. ⌜ r ≡ a - b ⌝ }
 {
-    let low = lesser(pass.low, level);
-    Pass {
-        low,
-        most: greater(pass.most, level - low),
+    if b < a { a - b } else { 0 }
+}
+
+// Some slots further, in which so much is played.
+fn further(lead: Lead, played: u64, slots: u64, r: u64) -> Lead
+    requires { ⌜ (lead .ahead ≤ greatestTotal) × ((played ≤ greatestTotal) × ((slots ≤ mostFrames) × (r ≤ greatestRate))) ⌝ }
+    ensures { λ p. ⌜ p ≡ furtherOf lead played slots r ⌝ }
+{
+    let ahead = over(lead.ahead + played, r * slots);
+    Lead {
+        ahead,
+        most: greater(lead.most, ahead),
     }
 }
 
-// From slot `from` to slot `to`, slot by slot.
-fn slots(sums: &[u64], r: u64, pass: Pass, from: usize, to: usize) -> Pass
-    requires { ⌜ Passable (now sums) r from to × PassedTo (sumsIn (now sums)) r (length (now sums) - 1) from pass ⌝ }
-    ensures { λ p. ⌜ PassedTo (sumsIn (now (sums .entry))) r (length (now (sums .entry)) - 1) to p ⌝ }
+// One more, where a frame or the one before it is larger than `low`.
+fn more(k: usize, last: u64, frame: u64, low: u64) -> usize
+    requires { ⌜ k ≤ mostFrames ⌝ }
+    ensures { λ r. ⌜ Kept k last frame low r ⌝ }
 {
-    let last = sums.len() - 1;
-    let mut p = pass;
-    let mut m = from;
-    while m < to {
+    if low < greater(last, frame) { k + 1 } else { k }
+}
+
+// Room for the places in the longest film.
+fn places_room() -> [usize; Job::MOST_FRAMES + 1]
+    ensures { λ r. ⌜ mostFrames + 1 ≡ length r ⌝ }
+{
+    [0usize; Job::MOST_FRAMES + 1]
+}
+
+// The places at which a pass must stop, as no rate is less than `low`: between two of them the lead only falls.
+fn mark(sums: &[u64], low: u64, places: &mut [usize; Job::MOST_FRAMES + 1]) -> usize
+    requires { ⌜ HoldsSums (now sums) × ((length (now sums) ≤ mostFrames + 1) × ((low ≤ greatestRate) × (mostFrames + 1 ≡ length (now places)))) ⌝ }
+    ensures { λ k. ⌜ Marks (sumsIn (now (sums .entry))) low (length (now (sums .entry)) - 1) (now (places .exit)) k ⌝ }
+{
+    let mut last = low + 1;
+    let mut k = 1;
+    let mut m = 1;
+    places[0] = 0;
+    while m < sums.len() {
+        let frame = sums[m] - sums[m - 1];
+        k = more(k, last, frame, low);
+        places[k - 1] = m;
+        last = frame;
         m += 1;
-        p = slot(p, sums[m] + r * (last - m) as u64);
     }
-    p
+    k
 }
 
-// The same, but at once where no level on the way can be below the lowest or make for more than the most.
-fn stretch(sums: &[u64], r: u64, pass: Pass, from: usize, to: usize) -> Pass
-    requires { ⌜ Passable (now sums) r from to × PassedTo (sumsIn (now sums)) r (length (now sums) - 1) from pass ⌝ }
-    ensures { λ p. ⌜ PassedTo (sumsIn (now (sums .entry))) r (length (now (sums .entry)) - 1) to p ⌝ }
+// Four needs, by one pass over the places: the most that what is played gets ahead of each rate. Four, as a step for one rate waits for the
+// step before it.
+fn four_needs(sums: &[u64], places: &[usize; Job::MOST_FRAMES + 1], count: usize, r: Four) -> Four
+    requires { ⌜ HoldsSums (now sums) × ((length (now sums) ≤ mostFrames + 1) × (Marked (now sums) (now places) count (r .a) × (Marked (now sums) (now places) count (r .b) × (Marked (now sums) (now places) count (r .c) × Marked (now sums) (now places) count (r .d))))) ⌝ }
+    ensures { λ x. ⌜ x ≡ fourOf (needOf (now (sums .entry))) r ⌝ }
 {
-    let last = sums.len() - 1;
-    let lowest = sums[from] + r * (last - to) as u64;
-    if lowest < pass.low {
-        return slots(sums, r, pass, from, to);
+    let mut a = Lead { ahead: 0, most: 0 };
+    let mut b = Lead { ahead: 0, most: 0 };
+    let mut c = Lead { ahead: 0, most: 0 };
+    let mut d = Lead { ahead: 0, most: 0 };
+    let mut at = 0;
+    let mut sum = 0;
+    let mut j = 1;
+    while j < count {
+        let to = places[j];
+        let next = sums[to];
+        let played = next - sum;
+        let slots = (to - at) as u64;
+        a = further(a, played, slots, r.a);
+        b = further(b, played, slots, r.b);
+        c = further(c, played, slots, r.c);
+        d = further(d, played, slots, r.d);
+        at = to;
+        sum = next;
+        j += 1;
     }
-    let highest = sums[to] + r * (last - from) as u64;
-    if pass.low + pass.most < highest {
-        return slots(sums, r, pass, from, to);
+    Four {
+        a: a.most,
+        b: b.most,
+        c: c.most,
+        d: d.most,
     }
-    pass
 }
 
-// How many slots a stretch has: few enough that most can be passed at once, and many enough that this pays.
-const STRETCH: usize = 32;
-
-fn stretch_end(m: usize, last: usize) -> usize
-    requires { ⌜ m < last ⌝ }
-    ensures { λ r. ⌜ (m < r) × (r ≤ last) ⌝ }
+// Where a rate is among the first ones; their count where it isn't.
+fn place_of(rates: &[u64; Job::MOST_NODES], count: usize, x: u64) -> usize
+    requires { ⌜ count ≤ mostNodes ⌝ }
+    ensures { λ k. ⌜ (k ≤ count) × (k < count → getD (now (rates .entry)) k 0 ≡ x) ⌝ }
 {
-    if last - m < STRETCH {
-        last
-    } else {
-        m + STRETCH
+    let mut k = 0;
+    while k < count {
+        if rates[k] == x {
+            return k;
+        }
+        k += 1;
+    }
+    count
+}
+
+// As many as there were, or up to place k.
+fn counted(count: usize, k: usize) -> usize
+    requires { ⌜ k < mostNodes ⌝ }
+    ensures { λ r. ⌜ r ≡ max count (k + 1) ⌝ }
+{
+    if k < count { count } else { k + 1 }
+}
+
+// The floor rates of all nodes, each once: nodes with one floor rate have one need.
+fn floor_rates(job: Job, low: u64) -> Floors
+    requires { ⌜ TreeWithin (treeIn job) × (low ≡ leastRate (treeIn job)) ⌝ }
+    ensures { λ f. ⌜ FloorsOf (treeIn job) (job .nodes) (f .rates) (f .count) (f .place) ⌝ }
+{
+    let nodes = job.nodes;
+    let mut rates = [low; Job::MOST_NODES];
+    let mut place = [0usize; Job::MOST_NODES];
+    let mut count = 0;
+    let mut i = 1;
+    while i < nodes {
+        let rate = floor_rate(job, i);
+        let k = place_of(&rates, count, rate);
+        rates[k] = rate;
+        place[i] = k;
+        count = counted(count, k);
+        i += 1;
+    }
+    Floors {
+        rates,
+        count,
+        place,
     }
 }
 
-// A need, by one pass over the frames: the most that what is played gets ahead of rate r.
-fn need_of(sums: &[u64], r: u64) -> u64
-    requires { ⌜ HoldsSums (now sums) × ((length (now sums) ≤ mostFrames + 1) × (r ≤ greatestRate)) ⌝ }
-    ensures { λ x. ⌜ x ≡ mostAhead (sumsIn (now (sums .entry))) r (length (now (sums .entry)) - 1) ⌝ }
+// The needs at the first so many rates.
+fn rate_needs(
+    sums: &[u64],
+    places: &[usize; Job::MOST_FRAMES + 1],
+    marks: usize,
+    rates: &[u64; Job::MOST_NODES],
+    count: usize,
+) -> [u64; Job::MOST_NODES]
+    requires { ⌜ HoldsSums (now sums) × ((length (now sums) ≤ mostFrames + 1) × ((count ≤ mostNodes) × ((u : ℕ) → u < mostNodes → Marked (now sums) (now places) marks (getD (now rates) u 0)))) ⌝ }
+    ensures { λ x. ⌜ (length x ≡ mostNodes) × ((u : ℕ) → u < count → getD x u 0 ≡ needOf (now (sums .entry)) (getD (now (rates .entry)) u 0)) ⌝ }
 {
-    let last = sums.len() - 1;
-    let mut pass = Pass {
-        low: r * last as u64,
-        most: 0,
-    };
-    let mut m = 0;
-    while m < last {
-        let to = stretch_end(m, last);
-        pass = stretch(sums, r, pass, m, to);
-        m = to;
+    let mut out = [0u64; Job::MOST_NODES];
+    let mut g = 0;
+    while 4 * g < count {
+        let k = 4 * g;
+        let r = Four {
+            a: rates[k],
+            b: rates[k + 1],
+            c: rates[k + 2],
+            d: rates[k + 3],
+        };
+        let x = four_needs(sums, places, marks, r);
+        out[k] = x.a;
+        out[k + 1] = x.b;
+        out[k + 2] = x.c;
+        out[k + 3] = x.d;
+        g += 1;
     }
-    pass.most
+    out
+}
+
+// To each node the number at its place.
+fn spread(
+    job: Job,
+    place: &[usize; Job::MOST_NODES],
+    numbers: &[u64; Job::MOST_NODES],
+) -> [u64; Job::MOST_NODES]
+    requires { ⌜ TreeWithin (treeIn job) × ((i : ℕ) → link (job .nodes) i ≡ true → getD (now place) i 0 < mostNodes) ⌝ }
+    ensures { λ r. ⌜ r ≡ tab (perNode (job .nodes) (λ i. getD (now (numbers .entry)) (getD (now (place .entry)) i 0) 0)) mostNodes ⌝ }
+{
+    let nodes = job.nodes;
+    let mut out = [0u64; Job::MOST_NODES];
+    let mut i = 1;
+    while i < nodes {
+        out[i] = numbers[place[i]];
+        i += 1;
+    }
+    out
 }
 
 // The need of each node at its place.
@@ -185,14 +309,14 @@ fn needs(job: Job, sums: &[u64]) -> [u64; Job::MOST_NODES]
     requires { ⌜ TreeWithin (treeIn job) × (HoldsSums (now sums) × (length (now sums) ≤ mostFrames + 1)) ⌝ }
     ensures { λ r. ⌜ r ≡ needsOf (treeIn job) (now (sums .entry)) ⌝ }
 {
-    let nodes = job.nodes;
-    let mut out = [0u64; Job::MOST_NODES];
-    let mut i = 1;
-    while i < nodes {
-        out[i] = need_of(sums, floor_rate(job, i));
-        i += 1;
-    }
-    out
+    let low = least_rate(job);
+    let mut places = places_room();
+    let marks = mark(sums, low, &mut places);
+    let floors = floor_rates(job, low);
+    let rates = floors.rates;
+    let place = floors.place;
+    let numbers = rate_needs(sums, &places, marks, &rates, floors.count);
+    spread(job, &place, &numbers)
 }
 
 // A node's memory from the needs.

@@ -1,0 +1,112 @@
+use borrow.Author.Needs.{needs}
+use native.Mathlib.Omega.{arith}
+use Rattle.rates.proofs.mark.Statement.{statement}
+use Rattle.rates.proofs.mark.Tie as tie
+use Rattle.rates.proofs.mark.Reads as reads
+use Rattle.rates.proofs.mark.Lts as lts
+use Rattle.rates.proofs.more.Reads as more-reads
+use mathlib.Core.Path.{_≡_, refl, ap, sym, _∙_}
+use Prim.Native.Nat.{ℕ, suc, _+_, _-_, _≤_, _<_}
+use lib.ListN.{length, getD, length-set}
+use lib.Seq.{getD-set-same}
+use Rattle.job.specs.Limits.{mostFrames}
+use Rattle.curves.specs.Curves.{sumsIn}
+use Rattle.curves.proofs.SumsLaws.{film-of}
+use Rattle.rates.proofs.SumLaws.{sum-at}
+use Rattle.rates.proofs.MarkLaws.{Marking, mark-start, mark-next}
+
+abbrev Inv-loop : tie.InvT-loop
+Inv-loop sums low places₀ last₀ k₀ m₀ places last k m = (0 < m) × ((m ≤ length sums) × ((mostFrames + 1 ≡ length places) × Marking (sumsIn sums) low (m - 1) places k last))
+
+abbrev μ-loop : tie.MeasureT-loop
+μ-loop sums low places₀ last₀ k₀ m₀ places last k m = length sums - m
+
+add-last : tie.Need-add-last Inv-loop μ-loop
+add-last c = search needs
+
+element-write-places : tie.Need-element-write-places Inv-loop μ-loop
+element-write-places c = search needs
+
+loop-holds : tie.Need-loop-holds Inv-loop μ-loop
+loop-holds c =
+    let places = c .before .args .places .now in
+    let long = c .before .pre .1 .1 .1 in
+    (omega arith, (omega (arith, c .before .pre .0 .some-sum), (long ∙ sym (length-set places 0 0), mark-start (sumsIn (c .before .args .sums .now)) (c .before .args .low) _ (getD-set-same places 0 0 0 (omega (arith, long))))))
+
+mul-frame : tie.Need-mul-frame Inv-loop μ-loop
+mul-frame c = search needs
+
+shared-slice-read-frame : tie.Need-shared-slice-read-frame Inv-loop μ-loop
+shared-slice-read-frame c = search needs
+
+sub-frame : tie.Need-sub-frame Inv-loop μ-loop
+sub-frame c = search needs
+
+mul-frame-2 : tie.Need-mul-frame-2 Inv-loop μ-loop
+mul-frame-2 c = search needs
+
+shared-slice-read-frame-2 : tie.Need-shared-slice-read-frame-2 Inv-loop μ-loop
+shared-slice-read-frame-2 c = search needs
+
+sub-frame-2 : tie.Need-sub-frame-2 Inv-loop μ-loop
+sub-frame-2 c = c .before .before .before .before .before .pre .0 .grows (c .before .before .before .loop .m - 1) (c .before .before .before .loop .m) (omega arith) (c .before .before .loop-test .taken)
+
+more-requires : tie.Need-more-requires Inv-loop μ-loop
+more-requires c κs = omega (arith, c .before .before .before .loop .inv .1 .1 .1 .marks .few, c .before .before .loop-test .taken, c .before .before .before .before .before .pre .1 .0)
+
+sub-places : tie.Need-sub-places Inv-loop μ-loop
+sub-places c = omega (arith, c .more .ensures .from, c .before .before .before .before .loop .inv .1 .1 .1 .marks .some-place)
+
+mul-places : tie.Need-mul-places Inv-loop μ-loop
+mul-places c = omega (arith, c .more .ensures .to, c .before .before .before .before .loop .inv .1 .1 .1 .marks .few, c .before .before .before .loop-test .taken, c .before .before .before .before .before .before .pre .1 .0)
+
+element-write-places-2 : tie.Need-element-write-places-2 Inv-loop μ-loop
+element-write-places-2 c = omega (arith, c .more .ensures .to, c .before .before .before .before .loop .inv .1 .1 .1 .marks .few, c .before .before .before .loop-test .taken, c .before .before .before .before .before .before .pre .1 .0)
+
+add-m : tie.Need-add-m Inv-loop μ-loop
+add-m c = search needs
+
+loop-less : tie.Need-loop-less Inv-loop μ-loop
+loop-less c = omega (arith, c .before .before .before .loop-test .taken)
+
+loop-again : tie.Need-loop-again Inv-loop μ-loop
+loop-again c =
+    let sums = c .before .before .before .before .before .before .args .sums .now in
+    let T = sumsIn sums in
+    let m = c .before .before .before .before .loop .m in
+    let back : m + 1 - 1 ≡ m = omega arith in
+    let this : m ≡ suc (m - 1) = omega (arith, c .before .before .before .before .loop .inv .0) in
+    let here : getD sums m 0 ≡ T m = sum-at sums m (c .before .before .before .loop-test .taken) in
+    let last : getD sums (m - 1) 0 ≡ T (m - 1) = sum-at sums (m - 1) (omega (arith, c .before .before .before .loop-test .taken)) in
+    let how = rw (here ∙ ap T this, last) at (c .more .ensures) in
+    let next = mark-next T (c .before .before .before .before .before .before .args .low) (m - 1) (c .before .before .before .before .loop .k) (c .before .before .before .before .loop .last) (c .before .before .before .before .loop .places) (c .before .before .before .before .loop .inv .1 .1 .1) (omega (arith, c .before .before .before .before .loop .inv .1 .1 .0, c .before .before .before .loop-test .taken, c .before .before .before .before .before .before .pre .1 .0)) (film-of sums (c .before .before .before .before .before .before .pre .0) .grows (m - 1) (suc (m - 1)) (omega arith)) (c .more .result) how in
+    (omega arith, (omega (arith, c .before .before .before .loop-test .taken), (c .before .before .before .before .loop .inv .1 .1 .0 ∙ sym (length-set (c .before .before .before .before .loop .places) (c .more .result - 1) m), rw (back, here, last) (rw (sym this) at next))))
+
+returns : tie.Need-returns Inv-loop μ-loop
+returns c =
+    let e : c .before .loop .m ≡ length (c .before .before .before .args .sums .now) = omega (arith, c .loop-test .left, c .before .loop .inv .1 .0) in
+    rw e at (c .before .loop .inv .1 .1 .1 .marks)
+
+pub mark-spec : {M : Type 1} → statement M
+mark-spec =
+    tie.close
+    (tie.spec
+    Inv-loop
+    μ-loop
+    add-last
+    element-write-places
+    loop-holds
+    mul-frame
+    shared-slice-read-frame
+    sub-frame
+    mul-frame-2
+    shared-slice-read-frame-2
+    sub-frame-2
+    more-requires
+    sub-places
+    mul-places
+    element-write-places-2
+    add-m
+    loop-less
+    loop-again
+    returns)

@@ -119,14 +119,14 @@ pub struct Floors {
     pub place: [usize; Job::MOST_NODES],
 }
 
-// By how much a is more than b.
+// By how much a is more than b; 0 where it isn't.
 fn over(a: u64, b: u64) -> u64
     ensures { λ r. ⌜ r ≡ a - b ⌝ }
 {
     if b < a { a - b } else { 0 }
 }
 
-// Some slots further, in which so much is played.
+// The lead some slots further, in which so much is played.
 fn further(lead: Lead, played: u64, slots: u64, r: u64) -> Lead
     requires { ⌜ (lead .ahead ≤ greatestTotal) × ((played ≤ greatestTotal) × ((slots ≤ mostFrames) × (r ≤ greatestRate))) ⌝ }
     ensures { λ p. ⌜ p ≡ furtherOf lead played slots r ⌝ }
@@ -153,11 +153,13 @@ fn places_room() -> [usize; Job::MOST_FRAMES + 1]
     [0usize; Job::MOST_FRAMES + 1]
 }
 
-// The places at which a pass must stop, as no rate is less than `low`: between two of them the lead only falls.
+// The slots at which a pass must stop, where no rate is less than `low`: the next one, or the last of several whose frames are all no larger
+// than `low`, in which no lead grows.
 fn mark(sums: &[u64], low: u64, places: &mut [usize; Job::MOST_FRAMES + 1]) -> usize
     requires { ⌜ HoldsSums (now sums) × ((length (now sums) ≤ mostFrames + 1) × ((low ≤ greatestRate) × (mostFrames + 1 ≡ length (now places)))) ⌝ }
     ensures { λ k. ⌜ Marks (sumsIn (now (sums .entry))) low (length (now (sums .entry)) - 1) (now (places .exit)) k ⌝ }
 {
+    // Before the first frame, as if a larger one had been there.
     let mut last = low + 1;
     let mut k = 1;
     let mut m = 1;
@@ -172,8 +174,8 @@ fn mark(sums: &[u64], low: u64, places: &mut [usize; Job::MOST_FRAMES + 1]) -> u
     k
 }
 
-// Four needs, by one pass over the places: the most that what is played gets ahead of each rate. Four, as a step for one rate waits for the
-// step before it.
+// Four needs, by one pass over the places: the most that what is played gets ahead of each rate. Four at a time, as each step for a rate waits
+// for the one before it.
 fn four_needs(sums: &[u64], places: &[usize; Job::MOST_FRAMES + 1], count: usize, r: Four) -> Four
     requires { ⌜ HoldsSums (now sums) × ((length (now sums) ≤ mostFrames + 1) × (Marked (now sums) (now places) count (r .a) × (Marked (now sums) (now places) count (r .b) × (Marked (now sums) (now places) count (r .c) × Marked (now sums) (now places) count (r .d))))) ⌝ }
     ensures { λ x. ⌜ x ≡ fourOf (needOf (now (sums .entry))) r ⌝ }

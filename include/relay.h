@@ -85,7 +85,7 @@ struct relay_rate_answer {
  *
  * `job` must point to at least `job_length` readable bytes and `memories` to at
  * least `memories_length` writable numbers, and the two may not overlap. Nothing is
- * kept. The call needs about 0.6 MB of stack.
+ * kept. The call needs about 1.1 MB of stack.
  */
 struct relay_rate_answer relay_rate_question(
     const uint8_t *job, size_t job_length,

@@ -11,7 +11,8 @@ extern "C" {
 /*
  * Reads `length` bytes at `job` and returns 0 where they are a job, else the
  * number of the first refusal below that applies. `job` must point to at least
- * `length` readable bytes. Nothing is written and nothing is kept.
+ * `length` readable bytes. Nothing is written and nothing is kept. The call needs
+ * about 20 kB of stack.
  *
  *    1  fewer than 10 bytes
  *    2  the mark is not "RLY"
@@ -107,7 +108,7 @@ struct relay_rate_answer relay_rate_question(
  *
  * `job` must point to at least `job_length` writable bytes and `memories` to at
  * least `memories_length` readable numbers, and the two may not overlap. Nothing is
- * kept. The call needs a few kB of stack.
+ * kept. The call needs about 25 kB of stack.
  */
 uint64_t relay_put_back(
     uint8_t *job, size_t job_length,

@@ -20,6 +20,28 @@ const FILLS: [u8; 2] = [0x00, 0xA5];
 /// Most bytes of a string that are printed.
 const HEX_BYTES: usize = 4_096;
 
+/// Compares the cases of one kind, and counts those met first and those met again,
+/// for which `compare` gives false. Where one fails, it says which.
+pub fn count_cases<C>(
+    name: &str,
+    seed: u64,
+    cases: impl Iterator<Item = C>,
+    mut compare: impl FnMut(C) -> Result<bool, Mismatch>,
+) -> Result<(u64, u64), Mismatch> {
+    let (mut first, mut repeated) = (0, 0);
+    for (i, case) in cases.enumerate() {
+        let new = compare(case).inspect_err(|_| {
+            println!("mismatch in kind \"{name}\", seed {seed:#018x}, case {i}");
+        })?;
+        if new {
+            first += 1;
+        } else {
+            repeated += 1;
+        }
+    }
+    Ok((first, repeated))
+}
+
 /// A byte string, with its number where the generator knows it.
 pub struct Case {
     bytes: Vec<u8>,

@@ -2,7 +2,7 @@
 //! independent planner.
 
 use crate::asking::{Asked, Case};
-use crate::compare::Mismatch;
+use crate::compare::{count_cases, Mismatch};
 use crate::edges::memory_examples;
 use crate::rng::Rng;
 use crate::trees;
@@ -88,20 +88,7 @@ fn compare_kind(
     asked: &mut Asked,
 ) -> Result<(), Mismatch> {
     let before = asked.binding;
-    let (mut jobs, mut repeated) = (0, 0);
-    for case in cases {
-        match asked.compare(case) {
-            Ok(true) => jobs += 1,
-            Ok(false) => repeated += 1,
-            Err(mismatch) => {
-                println!(
-                    "mismatch in kind \"{name}\", seed {seed:#018x}, case {}",
-                    jobs + repeated
-                );
-                return Err(mismatch);
-            }
-        }
-    }
+    let (jobs, repeated) = count_cases(name, seed, cases, |case| asked.compare(case))?;
     let binding = asked.binding - before;
     println!("{name:<22}{seed:>#20x}{jobs:>10}{repeated:>10}{binding:>10}");
     Ok(())

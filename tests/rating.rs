@@ -1,7 +1,7 @@
 //! The rate question: the library against the brute-force search and the
 //! independent implementation.
 
-use crate::compare::Mismatch;
+use crate::compare::{count_cases, Mismatch};
 use crate::rated;
 use crate::rng::Rng;
 use crate::sizing::{Case, Rated};
@@ -78,20 +78,7 @@ fn compare_kind(
     cases: impl Iterator<Item = Case>,
     rated: &mut Rated,
 ) -> Result<(), Mismatch> {
-    let (mut jobs, mut repeated) = (0, 0);
-    for case in cases {
-        match rated.compare(case) {
-            Ok(true) => jobs += 1,
-            Ok(false) => repeated += 1,
-            Err(mismatch) => {
-                println!(
-                    "mismatch in kind \"{name}\", seed {seed:#018x}, case {}",
-                    jobs + repeated
-                );
-                return Err(mismatch);
-            }
-        }
-    }
+    let (jobs, repeated) = count_cases(name, seed, cases, |case| rated.compare(case))?;
     println!("{name:<22}{seed:>#20x}{jobs:>10}{repeated:>10}");
     Ok(())
 }

@@ -1,6 +1,6 @@
 //! Reading a job: the library against the independent reader.
 
-use crate::compare::{Case, Mismatch, Tally};
+use crate::compare::{count_cases, Case, Mismatch, Tally};
 use crate::faults::with_faults;
 use crate::job::{Job, FRAME_BYTES, HEADER_BYTES, MOST_NODES, RECORD_BYTES};
 use crate::rng::Rng;
@@ -85,20 +85,7 @@ fn compare_kind(
     cases: impl Iterator<Item = Case>,
     tally: &mut Tally,
 ) -> Result<(), Mismatch> {
-    let (mut strings, mut repeated) = (0, 0);
-    for case in cases {
-        match tally.compare(case) {
-            Ok(true) => strings += 1,
-            Ok(false) => repeated += 1,
-            Err(mismatch) => {
-                println!(
-                    "mismatch in kind \"{name}\", seed {seed:#018x}, case {}",
-                    strings + repeated
-                );
-                return Err(mismatch);
-            }
-        }
-    }
+    let (strings, repeated) = count_cases(name, seed, cases, |case| tally.compare(case))?;
     println!("{name:<22}{seed:>#20x}{strings:>10}{repeated:>10}");
     Ok(())
 }

@@ -9,21 +9,88 @@ extern "C" {
 #endif
 
 /*
+ * Sizes. n is the node count of a job, M its frame count, H its last slot: M plus
+ * the greatest delay of a leaf. A node count is from RELAY_FEWEST_NODES to
+ * RELAY_MOST_NODES, a frame count from RELAY_FEWEST_FRAMES to RELAY_MOST_FRAMES; a
+ * delay is at most RELAY_LONGEST_DELAY slots, a memory RELAY_GREATEST_MEMORY bytes, a
+ * rate RELAY_GREATEST_RATE bytes a slot, a frame RELAY_GREATEST_FRAME bytes.
+ */
+#define RELAY_FEWEST_NODES 2
+#define RELAY_MOST_NODES 64
+#define RELAY_FEWEST_FRAMES 1
+#define RELAY_MOST_FRAMES 65536
+#define RELAY_LONGEST_DELAY 4096
+#define RELAY_GREATEST_MEMORY UINT64_C(1099511627775)
+#define RELAY_GREATEST_RATE UINT64_C(1099511627775)
+#define RELAY_GREATEST_FRAME 16777215
+
+/*
+ * How many numbers a running tree is: the slot number, and in place i after it
+ * what the link into node i has carried by the end of that slot. Places 0 and n to
+ * 63 have no link; steps keep what stands there. The first tree is all 0.
+ */
+#define RELAY_TREE_LENGTH 65
+
+/* The bytes of a job with n nodes and m frames, and the numbers of its plan. */
+#define RELAY_JOB_LENGTH(n, m) \
+    (10 + 19 * ((size_t)(n) - 1) + 4 * (size_t)(m))
+#define RELAY_PLAN_LENGTH(n, last_slot) \
+    (((size_t)(n) - 1) * ((size_t)(last_slot) + 1))
+
+/* The most that either can be. */
+#define RELAY_MOST_JOB_LENGTH \
+    RELAY_JOB_LENGTH(RELAY_MOST_NODES, RELAY_MOST_FRAMES)
+#define RELAY_MOST_PLAN_LENGTH \
+    RELAY_PLAN_LENGTH(RELAY_MOST_NODES, RELAY_MOST_FRAMES + RELAY_LONGEST_DELAY)
+
+/*
+ * The numbers that the functions below give. 0 is an answer, or a step that was
+ * taken; 1 to 14 are refusals, and where several apply the lowest is given, save by
+ * relay_put_back; 100 is no refusal: there is no further step.
+ */
+#define RELAY_ANSWERED 0
+#define RELAY_SHORT 1          /* fewer than 10 bytes */
+#define RELAY_BAD_MARK 2       /* the mark is not "RLY" */
+#define RELAY_BAD_VERSION 3    /* the version is not 1 */
+#define RELAY_BAD_NODES 4      /* n is below 2 or above 64 */
+#define RELAY_BAD_FRAMES 5     /* M is 0 or above 65,536 */
+#define RELAY_BAD_LENGTH 6     /* the length is not 10 + 19(n-1) + 4M */
+#define RELAY_BAD_PARENT 7     /* some parent is not below its child's number */
+#define RELAY_BAD_DELAY 8      /* an inner node's delay is not 0, or a leaf's is
+                                  above 4,096 */
+#define RELAY_LARGE_MEMORY 9   /* a memory or a rate is above 1,099,511,627,775 */
+#define RELAY_LARGE_FRAME 10   /* a frame is above 16,777,215 */
+#define RELAY_BAD_LENT 11      /* something lent has the wrong length */
+#define RELAY_NO_PLAN 12       /* no plan serves every leaf in time within the
+                                  memories */
+#define RELAY_NO_DELAY 13      /* no delay up to 4,096 serves within the rates */
+#define RELAY_BROKEN_RULE 14   /* a plan's column breaks a rule */
+#define RELAY_DONE 100         /* the slot number is H or later */
+
+/*
+ * The sizes above as the library has them. Where one differs from this header's,
+ * header and library do not belong together.
+ */
+struct relay_limits {
+    size_t fewest_nodes;
+    size_t most_nodes;
+    size_t fewest_frames;
+    size_t most_frames;
+    size_t longest_delay;
+    uint64_t greatest_memory;
+    uint64_t greatest_rate;
+    uint64_t greatest_frame;
+    size_t tree_length;
+};
+
+/* Gives the library's sizes. It refuses nothing. */
+struct relay_limits relay_library_limits(void);
+
+/*
  * Reads `length` bytes at `job` and returns 0 where they are a job, else the
- * number of the first refusal below that applies. `job` must point to at least
+ * number of the first refusal of 1 to 10 that applies. `job` must point to at least
  * `length` readable bytes. Nothing is written and nothing is kept. The call needs
  * about 20 kB of stack.
- *
- *    1  fewer than 10 bytes
- *    2  the mark is not "RLY"
- *    3  the version is not 1
- *    4  the node count n is below 2 or above 64
- *    5  the frame count M is 0 or above 65,536
- *    6  the length is not 10 + 19(n-1) + 4M
- *    7  some parent is not below its child's number
- *    8  an inner node's delay is not 0, or a leaf's is above 4,096
- *    9  a memory or a rate is above 1,099,511,627,775
- *   10  a frame is above 16,777,215
  */
 uint64_t relay_refusal(const uint8_t *job, size_t length);
 
@@ -59,6 +126,30 @@ struct relay_memory_answer relay_memory_question(
     const uint8_t *job, size_t job_length,
     uint64_t *plan, size_t plan_length,
     uint64_t *peaks, size_t peaks_length);
+
+/*
+ * Where the row of one link lies in a plan: its first place and how many numbers it
+ * has, one for each of slots 0 to H; 0 twice where the row is empty.
+ */
+struct relay_row {
+    size_t start;
+    size_t length;
+};
+
+/*
+ * Gives the row of the link into node `link` in a plan of `plan_length` numbers, laid
+ * out as the memory question fills it: the numbers from plan[start] on, `length` of
+ * them, lie within the plan. No plan is read.
+ *
+ * Nothing is refused by a number. The row is empty where one of 1 to 10 applies to the
+ * job, where `link` is 0 or not below n, and where `plan_length` is not (n-1)(H+1).
+ *
+ * `job` must point to at least `job_length` readable bytes. Nothing is written and
+ * nothing is kept. The call needs about 25 kB of stack.
+ */
+struct relay_row relay_row_of(
+    const uint8_t *job, size_t job_length,
+    size_t plan_length, size_t link);
 
 /*
  * The answer to the rate question: 0, the delay of every leaf and the total of
@@ -114,13 +205,6 @@ uint64_t relay_put_back(
     uint8_t *job, size_t job_length,
     uint64_t delay,
     const uint64_t *memories, size_t memories_length);
-
-/*
- * How many numbers a running tree is: the slot number, and in place i after it
- * what the link into node i has carried by the end of that slot. Places 0 and n to
- * 63 have no link; steps keep what stands there. The first tree is all 0.
- */
-#define RELAY_TREE_LENGTH 65
 
 /*
  * What a step gives: its number, and the link that 14 names (0 with any other

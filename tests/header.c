@@ -1,4 +1,7 @@
-/* Calls the library through its header, from C. */
+/*
+ * Calls the library through its header, from C, and holds the header's constants
+ * against the library: against the sizes that it gives, and against what it takes.
+ */
 
 #include <stdio.h>
 #include <string.h>
@@ -46,6 +49,146 @@ static void expect_all(const char *name, const uint64_t *expected,
     }
 }
 
+/* ---- the header's constants against the library ---- */
+
+static uint8_t built[RELAY_MOST_JOB_LENGTH + 1];
+
+/* Places in a job's bytes: those of a node's record, and of a frame. */
+enum { NODES = 5, FRAMES = 6, DELAY = 1, MEMORY = 3, RATE = 11 };
+
+static size_t record_of(size_t node)
+{
+    return RELAY_JOB_LENGTH(node, 0);
+}
+
+/* Writes a number of `width` bytes, the high byte first. */
+static void write_number(size_t place, size_t width, uint64_t number)
+{
+    while (width > 0) {
+        width--;
+        built[place + width] = (uint8_t)(number & 0xFF);
+        number >>= 8;
+    }
+}
+
+/* Builds a job of leaves below the root, all else 0, and gives its length. */
+static size_t build(size_t nodes, size_t frames)
+{
+    memset(built, 0, sizeof built);
+    memcpy(built, tree_q, NODES);
+    write_number(NODES, 1, nodes);
+    write_number(FRAMES, 4, frames);
+    return RELAY_JOB_LENGTH(nodes, frames);
+}
+
+/* The refusal of such a job with one number in it set. */
+static uint64_t refusal_with(size_t place, size_t width, uint64_t number)
+{
+    size_t length = build(RELAY_MOST_NODES, 2);
+
+    write_number(place, width, number);
+    return relay_refusal(built, length);
+}
+
+/* The greatest number that a field may have, and one more. */
+static void expect_greatest(const char *name, size_t place, size_t width,
+                            uint64_t greatest, uint64_t refusal)
+{
+    expect(name, RELAY_ANSWERED, refusal_with(place, width, greatest));
+    expect(name, refusal, refusal_with(place, width, greatest + 1));
+}
+
+static void sizes(void)
+{
+    const struct relay_limits limits = relay_library_limits();
+
+    expect("fewest nodes", RELAY_FEWEST_NODES, limits.fewest_nodes);
+    expect("most nodes", RELAY_MOST_NODES, limits.most_nodes);
+    expect("fewest frames", RELAY_FEWEST_FRAMES, limits.fewest_frames);
+    expect("most frames", RELAY_MOST_FRAMES, limits.most_frames);
+    expect("longest delay", RELAY_LONGEST_DELAY, limits.longest_delay);
+    expect("greatest memory", RELAY_GREATEST_MEMORY, limits.greatest_memory);
+    expect("greatest rate", RELAY_GREATEST_RATE, limits.greatest_rate);
+    expect("greatest frame", RELAY_GREATEST_FRAME, limits.greatest_frame);
+    expect("tree length", RELAY_TREE_LENGTH, limits.tree_length);
+}
+
+/* The same by what the library takes and what it refuses. */
+static void edges(void)
+{
+    const size_t last = record_of(RELAY_MOST_NODES - 1);
+    const size_t first_frame = record_of(RELAY_MOST_NODES);
+
+    expect("fewest nodes", RELAY_ANSWERED,
+           relay_refusal(built, build(RELAY_FEWEST_NODES, 1)));
+    expect("too few nodes", RELAY_BAD_NODES,
+           relay_refusal(built, build(RELAY_FEWEST_NODES - 1, 1)));
+    expect("most nodes", RELAY_ANSWERED,
+           relay_refusal(built, build(RELAY_MOST_NODES, 1)));
+    expect("too many nodes", RELAY_BAD_NODES,
+           relay_refusal(built, build(RELAY_MOST_NODES + 1, 1)));
+    expect("fewest frames", RELAY_ANSWERED,
+           relay_refusal(built, build(3, RELAY_FEWEST_FRAMES)));
+    expect("too few frames", RELAY_BAD_FRAMES,
+           relay_refusal(built, build(3, RELAY_FEWEST_FRAMES - 1)));
+    expect("most frames", RELAY_ANSWERED,
+           relay_refusal(built, build(3, RELAY_MOST_FRAMES)));
+    expect("too many frames", RELAY_BAD_FRAMES,
+           relay_refusal(built, build(3, RELAY_MOST_FRAMES + 1)));
+    expect_greatest("delay", last + DELAY, 2, RELAY_LONGEST_DELAY, RELAY_BAD_DELAY);
+    expect_greatest("memory", last + MEMORY, 8, RELAY_GREATEST_MEMORY,
+                    RELAY_LARGE_MEMORY);
+    expect_greatest("rate", last + RATE, 8, RELAY_GREATEST_RATE, RELAY_LARGE_MEMORY);
+    expect_greatest("frame", first_frame, 4, RELAY_GREATEST_FRAME,
+                    RELAY_LARGE_FRAME);
+}
+
+/* The lengths of jobs and plans, up to the longest. */
+static void lengths(void)
+{
+    const size_t slots = RELAY_MOST_FRAMES + RELAY_LONGEST_DELAY + 1;
+    const size_t links = RELAY_MOST_NODES - 1;
+    const size_t length = build(RELAY_MOST_NODES, RELAY_MOST_FRAMES);
+    struct relay_row row;
+
+    expect("longest job", 263351, RELAY_MOST_JOB_LENGTH);
+    expect("longest job", RELAY_ANSWERED, relay_refusal(built, length));
+    expect("one byte less", RELAY_BAD_LENGTH, relay_refusal(built, length - 1));
+    expect("one byte more", RELAY_BAD_LENGTH, relay_refusal(built, length + 1));
+
+    expect("longest plan", 4386879, RELAY_MOST_PLAN_LENGTH);
+    write_number(record_of(links) + DELAY, 2, RELAY_LONGEST_DELAY);
+    row = relay_row_of(built, length, RELAY_MOST_PLAN_LENGTH, links);
+    expect("last row of the longest plan", slots * (links - 1), row.start);
+    expect("last row of the longest plan", slots, row.length);
+}
+
+/* The refusals that no edge above has met, each by a job that gets it. */
+static void numbers(void)
+{
+    uint8_t job[sizeof tree_q];
+    uint64_t plan[15], peaks[3];
+
+    expect("no bytes", RELAY_SHORT, relay_refusal(tree_q, 0));
+    expect("nine bytes", RELAY_SHORT, relay_refusal(tree_q, 9));
+    expect("Tree Q", RELAY_ANSWERED, relay_refusal(tree_q, sizeof tree_q));
+    memcpy(job, tree_q, sizeof job);
+    job[record_of(2)] = 2; /* The parent of node 2. */
+    expect("own parent", RELAY_BAD_PARENT, relay_refusal(job, sizeof job));
+    job[4] = 2;
+    expect("version 2", RELAY_BAD_VERSION, relay_refusal(job, sizeof job));
+    job[2] = 0x58;
+    expect("wrong mark", RELAY_BAD_MARK, relay_refusal(job, sizeof job));
+
+    memcpy(job, tree_q, sizeof job);
+    job[record_of(1) + MEMORY + 7] = 0;
+    job[record_of(3) + MEMORY + 7] = 0;
+    expect("no memory", RELAY_NO_PLAN,
+           relay_memory_question(job, sizeof job, plan, 15, peaks, 3).number);
+}
+
+/* ---- each function ---- */
+
 /* The memory question on Tree Q, then with too short a plan. */
 static void memory_question(void)
 {
@@ -56,18 +199,42 @@ static void memory_question(void)
     memset(plan, 0xA5, sizeof plan);
     memset(peaks, 0xA5, sizeof peaks);
     answer = relay_memory_question(tree_q, sizeof tree_q, plan, 15, peaks, 3);
-    expect("Tree Q, number", 0, answer.number);
+    expect("Tree Q, number", RELAY_ANSWERED, answer.number);
     expect("Tree Q, last slot", 4, answer.last_slot);
     expect("Tree Q, total", 15, answer.total);
     expect_all("Tree Q, plan", tree_q_plan, plan, 15);
     expect_all("Tree Q, peaks", tree_q_peaks, peaks, 3);
 
     answer = relay_memory_question(tree_q, sizeof tree_q, plan, 14, peaks, 3);
-    expect("short plan, number", 11, answer.number);
+    expect("short plan, number", RELAY_BAD_LENT, answer.number);
     expect("short plan, last slot", 0, answer.last_slot);
     expect("short plan, total", 0, answer.total);
     expect_all("short plan, plan", tree_q_plan, plan, 15);
     expect_all("short plan, peaks", tree_q_peaks, peaks, 3);
+}
+
+static void expect_row(const char *name, size_t start, size_t length,
+                       struct relay_row row)
+{
+    expect(name, start, row.start);
+    expect(name, length, row.length);
+}
+
+/* The rows of Tree Q's links, then those that are empty. */
+static void rows(void)
+{
+    const size_t job = sizeof tree_q;
+    size_t link;
+
+    for (link = 1; link <= 3; link++) {
+        expect_row("row", 5 * (link - 1), 5, relay_row_of(tree_q, job, 15, link));
+    }
+    expect_row("row of the root", 0, 0, relay_row_of(tree_q, job, 15, 0));
+    expect_row("row past the last", 0, 0, relay_row_of(tree_q, job, 15, 4));
+    expect_row("row far past", 0, 0, relay_row_of(tree_q, job, 15, SIZE_MAX));
+    expect_row("row, short plan", 0, 0, relay_row_of(tree_q, job, 14, 2));
+    expect_row("row, long plan", 0, 0, relay_row_of(tree_q, job, 16, 2));
+    expect_row("row, short job", 0, 0, relay_row_of(tree_q, job - 1, 15, 2));
 }
 
 /* The rate question on Tree Q, then with too few memories and with rate 0. */
@@ -80,7 +247,7 @@ static void rate_question(void)
     struct relay_rate_answer answer;
 
     answer = relay_rate_question(tree_q, sizeof tree_q, memories, 2);
-    expect("few memories, number", 11, answer.number);
+    expect("few memories, number", RELAY_BAD_LENT, answer.number);
     expect("few memories, delay", 0, answer.delay);
     expect("few memories, total", 0, answer.total);
     expect_all("few memories", untouched, memories, 3);
@@ -88,7 +255,7 @@ static void rate_question(void)
     memcpy(stopped, tree_q, sizeof stopped);
     stopped[28] = 0; /* The rate of node 1. */
     answer = relay_rate_question(stopped, sizeof stopped, memories, 3);
-    expect("rate 0, number", 13, answer.number);
+    expect("rate 0, number", RELAY_NO_DELAY, answer.number);
     expect("rate 0, delay", 0, answer.delay);
     expect("rate 0, total", 0, answer.total);
     expect_all("rate 0, memories", untouched, memories, 3);
@@ -207,7 +374,7 @@ static void run_to_the_end(void)
 
         answer = relay_step(tree, RELAY_TREE_LENGTH, tree_q, sizeof tree_q,
                             tree_q_plan, 15, sent, 3, held, 3);
-        expect("done, number", 100, answer.number);
+        expect("done, number", RELAY_DONE, answer.number);
         expect("done, link", 0, answer.link);
         expect_kept("done", last, tree, sent, held);
     }
@@ -247,26 +414,23 @@ static void refused_steps(void)
 {
     const size_t all = RELAY_TREE_LENGTH, job = sizeof tree_q;
 
-    refused_step("short job", all, 9, 3, 1, 0);
-    refused_step("short job and tree", all - 1, 9, 3, 1, 0);
-    refused_step("short tree", all - 1, job, 3, 11, 0);
-    refused_step("long tree", all + 1, job, 3, 11, 0);
-    refused_step("no tree", 0, job, 3, 11, 0);
-    refused_step("short row", all, job, 2, 11, 0);
-    refused_step("starved leaf", all, job, 3, 14, 2);
+    refused_step("short job", all, 9, 3, RELAY_SHORT, 0);
+    refused_step("short job and tree", all - 1, 9, 3, RELAY_SHORT, 0);
+    refused_step("short tree", all - 1, job, 3, RELAY_BAD_LENT, 0);
+    refused_step("long tree", all + 1, job, 3, RELAY_BAD_LENT, 0);
+    refused_step("no tree", 0, job, 3, RELAY_BAD_LENT, 0);
+    refused_step("short row", all, job, 2, RELAY_BAD_LENT, 0);
+    refused_step("starved leaf", all, job, 3, RELAY_BROKEN_RULE, 2);
 }
 
 int main(void)
 {
-    uint8_t wrong_mark[sizeof tree_q];
-
-    memcpy(wrong_mark, tree_q, sizeof tree_q);
-    wrong_mark[2] = 0x58;
-
-    expect("empty input", 1, relay_refusal(tree_q, 0));
-    expect("Tree Q", 0, relay_refusal(tree_q, sizeof tree_q));
-    expect("wrong mark", 2, relay_refusal(wrong_mark, sizeof wrong_mark));
+    sizes();
+    edges();
+    lengths();
+    numbers();
     memory_question();
+    rows();
     rate_question();
     put_back();
     run_to_the_end();

@@ -20,13 +20,8 @@
 
 enum status { ANSWERED = 0, REFUSED = 1, NOTHING = 2 };
 
-/* Places and widths in a job's bytes. */
-enum {
-    HEAD = 10,
-    RECORD = 19,
-    FRAME = 4,
-    GREATEST_JOB = HEAD + RECORD * 63 + FRAME * 65536
-};
+/* Places in a job's bytes, and that of the delay in a node's record. */
+enum { NODES = 5, FRAMES = 6, DELAY = 1 };
 
 /* A job's bytes, and both answers to it. */
 struct asked {
@@ -34,7 +29,7 @@ struct asked {
     size_t job_length;
     size_t links;
     uint64_t *plan;
-    size_t row_length;
+    size_t plan_length;
     uint64_t *peaks;
     struct relay_memory_answer memory;
     uint64_t *memories;
@@ -79,20 +74,20 @@ static void say_refused(const char *name, const char *what, uint64_t number)
 }
 
 /*
- * Reads the file into asked->job. A job has at most GREATEST_JOB bytes, and a
- * longer file is refused by what its first GREATEST_JOB + 1 bytes say, so no
- * more are read.
+ * Reads the file into asked->job. A longer file than any job is refused by what
+ * the first bytes say, one more than a job may have, so no more are read.
  */
 static enum status read_job(const char *name, struct asked *asked)
 {
     int standard = strcmp(name, "-") == 0;
     FILE *file = standard ? stdin : fopen(name, "rb");
+    const size_t room = RELAY_MOST_JOB_LENGTH + 1;
     int wrong;
 
     if (file == NULL) {
         return complain(name, strerror(errno));
     }
-    asked->job = malloc(GREATEST_JOB + 1);
+    asked->job = malloc(room);
     if (asked->job == NULL) {
         if (!standard) {
             fclose(file);
@@ -100,7 +95,7 @@ static enum status read_job(const char *name, struct asked *asked)
         return complain(name, "no memory for the job");
     }
     errno = 0;
-    asked->job_length = fread(asked->job, 1, GREATEST_JOB + 1, file);
+    asked->job_length = fread(asked->job, 1, room, file);
     wrong = ferror(file) ? (errno != 0 ? errno : EIO) : 0;
     if (!standard) {
         fclose(file);
@@ -124,30 +119,31 @@ static size_t field(const uint8_t *job, size_t place, size_t width)
  * H of a job that relay_refusal accepts: the frame count and the greatest leaf
  * delay. Inner nodes' delays are 0, so it is the greatest of all delays.
  */
-static size_t last_slot(const uint8_t *job, size_t links)
+static size_t last_slot(const uint8_t *job, size_t nodes)
 {
     size_t greatest = 0;
     size_t i;
 
-    for (i = 0; i < links; i++) {
-        size_t delay = field(job, HEAD + RECORD * i + 1, 2);
+    for (i = 1; i < nodes; i++) {
+        size_t delay = field(job, RELAY_JOB_LENGTH(i, 0) + DELAY, 2);
 
         if (delay > greatest) {
             greatest = delay;
         }
     }
-    return field(job, 6, 4) + greatest;
+    return field(job, FRAMES, 4) + greatest;
 }
 
 /* Asks both questions of a job that relay_refusal accepts. */
 static enum status ask(const char *name, struct asked *asked)
 {
-    size_t links = (size_t)asked->job[5] - 1;
-    size_t row_length = last_slot(asked->job, links) + 1;
+    size_t nodes = asked->job[NODES];
+    size_t links = nodes - 1;
+    size_t plan_length = RELAY_PLAN_LENGTH(nodes, last_slot(asked->job, nodes));
 
     asked->links = links;
-    asked->row_length = row_length;
-    asked->plan = malloc(links * row_length * sizeof *asked->plan);
+    asked->plan_length = plan_length;
+    asked->plan = malloc(plan_length * sizeof *asked->plan);
     asked->peaks = malloc(links * sizeof *asked->peaks);
     asked->memories = malloc(links * sizeof *asked->memories);
     if (asked->plan == NULL || asked->peaks == NULL ||
@@ -155,7 +151,7 @@ static enum status ask(const char *name, struct asked *asked)
         return complain(name, "no memory for the plan");
     }
     asked->memory = relay_memory_question(asked->job, asked->job_length,
-                                          asked->plan, links * row_length,
+                                          asked->plan, plan_length,
                                           asked->peaks, links);
     asked->rate = relay_rate_question(asked->job, asked->job_length,
                                       asked->memories, links);
@@ -180,6 +176,12 @@ static void print_rest(const uint64_t *numbers, size_t count)
     putchar('\n');
 }
 
+/* The row of the link into node `link`. */
+static struct relay_row row_of(const struct asked *asked, size_t link)
+{
+    return relay_row_of(asked->job, asked->job_length, asked->plan_length, link);
+}
+
 /* Line one, and a line for each node: number, peak, row. */
 static void print_memory(const struct asked *asked)
 {
@@ -192,8 +194,10 @@ static void print_memory(const struct asked *asked)
     printf("0 %" PRIu64 " %" PRIu64 "\n", asked->memory.last_slot,
            asked->memory.total);
     for (i = 0; i < asked->links; i++) {
+        struct relay_row row = row_of(asked, i + 1);
+
         printf("%zu %" PRIu64, i + 1, asked->peaks[i]);
-        print_rest(asked->plan + i * asked->row_length, asked->row_length);
+        print_rest(asked->plan + row.start, row.length);
     }
 }
 
@@ -211,6 +215,7 @@ static void print_rate(const struct asked *asked)
 /* The rows as columns, a line for each slot; nothing where there is no plan. */
 static void print_csv(const struct asked *asked)
 {
+    size_t slots = row_of(asked, 1).length;
     size_t i;
     size_t k;
 
@@ -222,10 +227,10 @@ static void print_csv(const struct asked *asked)
         printf(",node%zu", i + 1);
     }
     putchar('\n');
-    for (k = 0; k < asked->row_length; k++) {
+    for (k = 0; k < slots; k++) {
         printf("%zu", k);
         for (i = 0; i < asked->links; i++) {
-            printf(",%" PRIu64, asked->plan[i * asked->row_length + k]);
+            printf(",%" PRIu64, asked->plan[i * slots + k]);
         }
         putchar('\n');
     }

@@ -2,3 +2,4 @@ pub mod RoomLaws
 pub mod KeepLaws
 pub mod WorkLaws
 pub mod AnswerLaws
+pub mod PlaceLaws

@@ -1,6 +1,6 @@
 -- What the planner's functions give: the answer's numbers, the plan's rows in one list, and what the memory question says in each case.
 use mathlib.Core.Bool.{cond, _&&_}
-use mathlib.Core.List.{List, []}
+use mathlib.Core.List.{List}
 use mathlib.Core.Path.{_≡_}
 use mathlib.Core.Logic.{_⊎_}
 use Prim.Native.Nat.{ℕ, suc, _+_, _-_, _*_}
@@ -16,6 +16,7 @@ use Rattle.smoothing.specs.Plan.{plan}
 use Rattle.curves.specs.Curves.{problem}
 use Rattle.planner.specs.Rules.{Keeps, Best}
 use Rattle.planner.specs.declared.Answer.{Answer}
+use Rattle.planner.specs.declared.Place.{Place}
 use Rattle.planner.specs.declared.Answer.the-variants.{Refused, Planned}
 
 -- document 01's number, H and T(M) of each answer: on a refusal the other results are 0
@@ -31,14 +32,20 @@ abbrev pub totalOf : Answer → ℕ
 totalOf (Refused e) = 0
 totalOf (Planned last total) = total
 
--- the row of link i as that part of the plan; an empty part where a check before 11 refuses the job, no such link exists or the plan's
--- length is wrong
+-- where the row of link i lies in a plan of so many numbers: where it starts, and its slots 0 to H; both 0 where a check before 11 refuses
+-- the job, no such link exists or the plan's length is wrong
+unfoldable pub rowPlace : List ℕ → ℕ → ℕ → Place
+rowPlace s planned i =
+    let j = jobOf s in
+    cond (eqb (refusal s) 0 && (link (j .tree .n) i && eqb planned (planLength j)))
+    (record { start = (i - 1) * (H j + 1); slots = H j + 1 })
+    (record { start = 0; slots = 0 })
+
+-- the row of link i as that part of the plan, empty where it has no place
 unfoldable pub rowOf : List ℕ → List ℕ → ℕ → List ℕ
 rowOf s plan i =
-    let j = jobOf s in
-    cond (eqb (refusal s) 0 && (link (j .tree .n) i && eqb (length plan) (planLength j)))
-    (take (H j + 1) (drop ((i - 1) * (H j + 1)) plan))
-    []
+    let p = rowPlace s (length plan) i in
+    take (p .slots) (drop (p .start) plan)
 
 -- the first of refusals 1 to 11 that applies, with outputs of these lengths; 0 where none does
 unfoldable pub earlyRefusal : List ℕ → ℕ → ℕ → ℕ

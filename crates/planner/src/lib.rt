@@ -14,7 +14,7 @@ ghost use Rattle.rows.specs.Search.{Searchable};
 ghost use Rattle.curves.specs.Curves.{sumsIn, lastIn, HoldsSums};
 ghost use Rattle.curves.specs.Rows.{upperRows};
 ghost use Rattle.planner.specs.Work.{Ready, Starves, AllFed, problemIn, lazyRowsOf, planRowsOf, peaksOf, widthOf, Worked};
-ghost use Rattle.planner.specs.Answer.{rowOf, Answers};
+ghost use Rattle.planner.specs.Answer.{rowPlace, rowOf, Answers};
 ghost use Rattle.job.specs.Limits.{mostFrames, mostSlots};
 ghost use Rattle.job.specs.Bytes.{frameCount, jobOf};
 ghost use Rattle.job.specs.Tree as tree;
@@ -183,26 +183,44 @@ pub fn memory_question(bytes: &[u8], plan: &mut [u64], peaks: &mut [u64]) -> Ans
     with_job(bytes, job, plan, peaks)
 }
 
+// Where a row lies in a plan: its first place, and how many slots it has; 0 twice where there is none.
+pub struct Place {
+    pub start: usize,
+    pub slots: usize,
+}
+
+// Where the row of link i lies in a plan of so many numbers.
+pub fn row_place(bytes: &[u8], planned: usize, i: usize) -> Place
+    ensures { λ r. ⌜ r ≡ rowPlace (now (bytes .entry)) planned i ⌝ }
+{
+    let none = Place { start: 0, slots: 0 };
+    let read = job::read(bytes);
+    if read.refusal != 0 {
+        return none;
+    }
+    let job = read.job;
+    if i == 0 {
+        return none;
+    }
+    if job.nodes <= i {
+        return none;
+    }
+    if planned != job.plan_length() {
+        return none;
+    }
+    let slots = job.last_slot() + 1;
+    Place {
+        start: (i - 1) * slots,
+        slots,
+    }
+}
+
 // The row of link i as that part of the plan itself.
 pub fn row_of<'a, 'b>(bytes: &'b [u8], plan: &'a [u64], i: usize) -> &'a [u64]
     ensures { λ r. ⌜ now r ≡ rowOf (now (bytes .entry)) (now (plan .entry)) i ⌝ }
 {
-    let read = job::read(bytes);
-    if read.refusal != 0 {
-        return &plan[0..0];
-    }
-    let job = read.job;
-    if i == 0 {
-        return &plan[0..0];
-    }
-    if job.nodes <= i {
-        return &plan[0..0];
-    }
-    if plan.len() != job.plan_length() {
-        return &plan[0..0];
-    }
-    let width = job.last_slot() + 1;
-    let a = (i - 1) * width;
-    let e = a + width;
-    &plan[a..e]
+    let place = row_place(bytes, plan.len(), i);
+    let start = place.start;
+    let end = start + place.slots;
+    &plan[start..end]
 }

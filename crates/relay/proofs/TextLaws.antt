@@ -1,20 +1,14 @@
 -- Laws of a text that grows, and of lines.
-use mathlib.Core.Bool.{Bool, true, false, cond, _&&_}
 use mathlib.Core.List.{List, [], _∷_, _++_, append-assoc, append-nil}
 use mathlib.Core.Path.{_≡_, refl, ap, sym, _∙_}
-use Prim.Native.Nat.{ℕ, _+_, _-_, _*_, _≤_, _<_}
+use Prim.Native.Nat.{ℕ, _+_, _*_, _≤_, _<_}
 use native.Mathlib.Omega.{arith}
 use native.Mathlib.Numerals.{add-one}
-use lib.ListN.{length, take, drop, getD, set, length-append, length-take}
+use lib.ListN.{length, take, getD, set, length-append}
 use lib.Seq.{take-suc-set, take-suc, take-at, length-take-le}
-use lib.Dec.{eqb}
 use native.Mathlib.Nat.{suc-mul}
 use Rattle.base.specs.Table.{rowsOf}
 use Rattle.base.proofs.TableLaws.{row-end}
-use Rattle.job.specs.Bytes.{jobOf}
-use Rattle.job.specs.Refusal.{refusal}
-use Rattle.job.specs.Tree.{link, H, planLength}
-use Rattle.planner.specs.Answer.{rowOf}
 use Rattle.relay.specs.Decimal.{digits}
 use Rattle.relay.specs.Text.{space, spaced, lineEnd, line}
 use Rattle.relay.specs.Room.{Adds}
@@ -87,18 +81,6 @@ given-text n m k row =
     rw (append-assoc (digits n ++ spaced (m ∷ [])) (spaced (k ∷ [])) (spaced row), ← spaced-append (k ∷ []) row) (node-text n m (k ∷ row))
 
 -- ---- the lines of all nodes
-
--- a row has at most H + 1 numbers
-pub row-most : (s plan : List ℕ) (i : ℕ) → length (rowOf s plan i) ≤ H (jobOf s) + 1
-unfolding rowOf
-row-most s plan i = either (eqb (refusal s) 0 && (link (jobOf s .tree .n) i && eqb (length plan) (planLength (jobOf s))))
-  where
-    long : length (take (H (jobOf s) + 1) (drop ((i - 1) * (H (jobOf s) + 1)) plan)) ≤ H (jobOf s) + 1
-    long = rw length-take (omega arith)
-
-    either : (b : Bool) → length (cond b (take (H (jobOf s) + 1) (drop ((i - 1) * (H (jobOf s) + 1)) plan)) []) ≤ H (jobOf s) + 1
-    either true = long
-    either false = omega arith
 
 -- room for one line more, where each takes at most w
 pub line-fits : (at end i n w long room : ℕ) → end ≤ at + i * w → at + n * w ≤ room → i < n → long ≤ w → end + long ≤ room

@@ -5,22 +5,48 @@ use Prim.Native.Nat.{ℕ, zero, suc, _+_}
 use lib.ListN.{length, getD}
 use Rattle.base.specs.Table.{tab}
 use Rattle.job.specs.Limits.{mostNodes}
+use Rattle.job.specs.declared.Limits.{Limits}
 use Rattle.job.specs.Refusal.{refusal}
 use Rattle.job.specs.Steps.{orElse}
 use Rattle.planner.specs.Answer.{numberOf, lastOf, totalOf}
 use Rattle.planner.specs.declared.Answer.{Answer}
+use Rattle.planner.specs.declared.Place.{Place}
 use Rattle.rates.specs.Answer as rates
 use Rattle.rates.specs.declared.Sizing.{Sizing}
 use Rattle.running.specs.Running as running
 use Rattle.running.specs.Running.{Stepped}
 use Rattle.running.specs.declared.Running.{Running}
 use Rattle.running.specs.declared.Outcome.{Outcome}
+use Rattle.relay_c.specs.declared.LibraryLimits.{LibraryLimits}
 use Rattle.relay_c.specs.declared.MemoryAnswer.{MemoryAnswer}
+use Rattle.relay_c.specs.declared.Row.{Row}
 use Rattle.relay_c.specs.declared.RateAnswer.{RateAnswer}
 use Rattle.relay_c.specs.declared.StepAnswer.{StepAnswer}
 
+-- how many numbers a running tree is: its slot number, and a place for each node
+abbrev pub stateLength : ℕ
+stateLength = mostNodes + 1
+
+-- every bound of document 01, and the length of a running tree
+abbrev pub limitNumbers : Limits → LibraryLimits
+limitNumbers x =
+    record {
+      «fewest_nodes» = x .«fewest_nodes»;
+      «most_nodes» = x .«most_nodes»;
+      «fewest_frames» = x .«fewest_frames»;
+      «most_frames» = x .«most_frames»;
+      «longest_delay» = x .«longest_delay»;
+      «greatest_memory» = x .«greatest_memory»;
+      «greatest_rate» = x .«greatest_rate»;
+      «greatest_frame» = x .«greatest_frame»;
+      «tree_length» = stateLength;
+    }
+
 abbrev pub memoryNumbers : Answer → MemoryAnswer
 memoryNumbers a = record { number = numberOf a; «last_slot» = lastOf a; total = totalOf a }
+
+abbrev pub rowNumbers : Place → Row
+rowNumbers p = record { start = p .start; slots = p .slots }
 
 abbrev pub rateNumbers : Sizing → RateAnswer
 rateNumbers a = record { number = rates.numberOf a; delay = rates.delayOf a; total = rates.totalOf a }
@@ -29,9 +55,6 @@ abbrev pub stepNumbers : Outcome → StepAnswer
 stepNumbers o = record { number = running.numberOf o; link = running.linkOf o }
 
 -- ---- a running tree as numbers: the slot number, and what each of the 64 places carries
-
-abbrev pub stateLength : ℕ
-stateLength = mostNodes + 1
 
 abbrev pub treeFrom : List ℕ → Running
 treeFrom l = record { slot = getD l 0 0; carried = tab (λ v. getD l (suc v) 0) mostNodes }

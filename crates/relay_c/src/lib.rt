@@ -6,18 +6,55 @@ ghost use Rattle.base.specs.Table.{tab};
 ghost use Rattle.job.specs.Steps.{orElse};
 ghost use lib.Dec.{eqb};
 ghost use Rattle.job.specs.Bytes.{jobOf};
+ghost use Rattle.job.specs.Read.{limits};
 ghost use Rattle.job.specs.Refusal.{refusal};
-ghost use Rattle.planner.specs.Answer.{Answers};
+ghost use Rattle.planner.specs.Answer.{Answers, rowPlace};
 ghost use Rattle.planner.specs.declared.Answer as planner;
 ghost use Rattle.rates.specs.Answer.{Sizes};
 ghost use Rattle.rates.specs.declared.Sizing as rates;
 ghost use Rattle.writing.specs.PutBack.{putBack, answeredJob, memoriesIn, putBackRefusal};
-ghost use Rattle.relay_c.specs.Numbers.{memoryNumbers, rateNumbers, stepNumbers, stateLength, treeFrom, numberAt, StepSays};
+ghost use Rattle.relay_c.specs.Numbers.{limitNumbers, memoryNumbers, rowNumbers, rateNumbers, stepNumbers, stateLength, treeFrom, numberAt, StepSays};
 use job::Job;
+use job::Limits;
 use planner::Answer;
 use rates::Sizing;
 use running::Outcome;
 use running::Running;
+
+// How many numbers a running tree is in C: the slot number and a place for each node.
+const STATE: usize = Job::MOST_NODES + 1;
+
+// Every bound, and the length of a running tree, so that a header's constants can be held against them.
+#[repr(C)]
+pub struct LibraryLimits {
+    pub fewest_nodes: usize,
+    pub most_nodes: usize,
+    pub fewest_frames: usize,
+    pub most_frames: usize,
+    pub longest_delay: usize,
+    pub greatest_memory: u64,
+    pub greatest_rate: u64,
+    pub greatest_frame: u64,
+    pub tree_length: usize,
+}
+
+#[no_mangle]
+pub extern "C" fn relay_library_limits() -> LibraryLimits
+    ensures { λ r. ⌜ r ≡ limitNumbers limits ⌝ }
+{
+    let all = Limits::all();
+    LibraryLimits {
+        fewest_nodes: all.fewest_nodes,
+        most_nodes: all.most_nodes,
+        fewest_frames: all.fewest_frames,
+        most_frames: all.most_frames,
+        longest_delay: all.longest_delay,
+        greatest_memory: all.greatest_memory,
+        greatest_rate: all.greatest_rate,
+        greatest_frame: all.greatest_frame,
+        tree_length: STATE,
+    }
+}
 
 // The first of refusals 1 to 10 that applies to these bytes, 0 where they are a job.
 #[no_mangle]
@@ -55,6 +92,25 @@ pub extern "C" fn relay_memory_question(
             last_slot,
             total,
         },
+    }
+}
+
+// Where a row lies in a plan: its first place, and how many slots it has; 0 twice where there is none.
+#[repr(C)]
+pub struct Row {
+    pub start: usize,
+    pub slots: usize,
+}
+
+// The row of one link, by its place in a plan of so many numbers.
+#[no_mangle]
+pub extern "C" fn relay_row_of(job: &[u8], planned: usize, link: usize) -> Row
+    ensures { λ r. ⌜ r ≡ rowNumbers (rowPlace (now (job .entry)) planned link) ⌝ }
+{
+    let place = planner::row_place(job, planned, link);
+    Row {
+        start: place.start,
+        slots: place.slots,
     }
 }
 
@@ -115,9 +171,6 @@ fn step_answer(outcome: Outcome) -> StepAnswer
         Outcome::Refused(number, link) => StepAnswer { number, link },
     }
 }
-
-// How many numbers a running tree is in C: the slot number and a place for each node.
-const STATE: usize = Job::MOST_NODES + 1;
 
 // The running tree that lent numbers say.
 fn tree_from(numbers: &[u64]) -> Running

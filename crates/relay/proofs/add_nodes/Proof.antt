@@ -4,7 +4,8 @@ use native.Mathlib.Omega.{arith}
 use lib.ListN.{length}
 use borrow.Author.Needs.{needs}
 use Rattle.base.specs.Table.{rowsOf}
-use Rattle.relay.proofs.TextLaws.{adds-none, adds-more, adds-as, row-most, line-fits, line-next, lines-more}
+use Rattle.planner.proofs.PlaceLaws.{row-most}
+use Rattle.relay.proofs.TextLaws.{adds-none, adds-more, adds-as, line-fits, line-next, lines-more}
 use Rattle.relay.specs.Room.{nodeRoom, Adds, wordWidth}
 use Rattle.relay.specs.Text.{nodeLine}
 use Rattle.relay.proofs.add_nodes.Statement.{statement}

@@ -1,21 +1,21 @@
--- The places at which a pass stops: each new slot is a place of its own, or moves the last place on.
+-- The places at which a pass stops: each next slot is a place of its own, or the last place moves on to it.
 use mathlib.Core.List.{List}
-use mathlib.Core.Logic.{inl, inr}
-use mathlib.Core.Path.{_≡_, refl, ap, _∙_}
-use Prim.Native.Nat.{ℕ, zero, suc, _+_, _-_, _≤_, _<_}
+use mathlib.Core.Logic.{⊎-elim, inr}
+use mathlib.Core.Path.{_≡_, sym, _∙_}
+use Prim.Native.Nat.{ℕ, zero, suc, _+_, _-_, _*_, _≤_, _<_}
 use native.Mathlib.Omega.{arith}
-use native.Mathlib.Decide.{ℕ-discrete}
-use lib.ListN.{length, getD, set, length-set}
+use native.Mathlib.Decide.{ℕ-discrete, decLt}
+use lib.ListN.{length, getD, set}
 use lib.Seq.{getD-set-same, getD-set-other}
 use Rattle.rates.specs.Work.{Low, Step, Marks, Kept}
 
--- up to slot m, whose frame is `last`: where that is low, so are the frames since the place before the last
-pub record Marking (T : ℕ → ℕ) (r m : ℕ) (places : List ℕ) (k last : ℕ) : Type 0 where
+-- up to slot m: where `last` is no more than the bar, no lead grows since the place before the last
+pub record Marking (T : ℕ → ℕ) (r bar m : ℕ) (places : List ℕ) (k last : ℕ) : Type 0 where
   pub marks : Marks T r m places k
-  pub falling : last ≤ r → (1 < k) × Low T r (getD places (k - 2) 0) m
+  pub falling : last ≤ bar → (1 < k) × Low T r (getD places (k - 2) 0) m
 
-module _ (T : ℕ → ℕ) (r : ℕ) where
-  pub mark-start : (places : List ℕ) → getD places 0 0 ≡ 0 → Marking T r 0 places 1 (r + 1)
+module _ (T : ℕ → ℕ) (r bar : ℕ) where
+  pub mark-start : (places : List ℕ) → getD places 0 0 ≡ 0 → Marking T r bar 0 places 1 (bar + 1)
   mark-start places z =
       record {
         marks =
@@ -30,84 +30,117 @@ module _ (T : ℕ → ℕ) (r : ℕ) where
         falling = λ h. absurd (omega arith);
       }
 
-  module _ (m k last : ℕ) (places : List ℕ) (so : Marking T r m places k last) (room : suc m < length places) (up : T m ≤ T (suc m)) where
-    abbrev frame : ℕ
-    frame = T (suc m) - T m
+  -- a step of which the rate leaves nothing over is one in which no lead grows
+  pub step-low : (a b : ℕ) → Step T r a b → T b - T a ≤ r * (b - a) → Low T r a b
+  step-low a b (h, way) none = ⊎-elim one (λ low. low) way
+    where
+      one : b ≡ suc a → Low T r a b
+      one e m l u =
+          let s : m ≡ a = omega arith in
+          let d : b - a ≡ 1 = omega arith in
+          let z : r * 1 ≡ r = omega arith in
+          let flat : T b - T a ≤ r = rw (d, z) at none in
+          let rise : T b ≤ T a + r = omega (arith, flat) in
+          rw (s, sym e) rise
 
-    kept : Marking T r (suc m) (set places k (suc m)) (suc k) (T (suc m) - T m)
+  module _ (m to k last new : ℕ) (places : List ℕ) (so : Marking T r bar m places k last) (room : to < length places) (way : Step T r m to)
+      (flat : new ≤ bar → Low T r m to) where
+    kept : Marking T r bar to (set places k to) (suc k) new
     kept =
         let old = so .marks in
-        let here : getD (set places k (suc m)) k 0 ≡ suc m = getD-set-same places k (suc m) 0 (omega (arith, so .marks .few)) in
-        let other : (j : ℕ) → (j ≡ k → ⊥) → getD (set places k (suc m)) j 0 ≡ getD places j 0 = λ j ne. getD-set-other places k j (suc m) 0 ne in
+        let here : getD (set places k to) k 0 ≡ to = getD-set-same places k to 0 (omega (arith, so .marks .few, way .0)) in
+        let other : (j : ℕ) → (j ≡ k → ⊥) → getD (set places k to) j 0 ≡ getD places j 0 = λ j ne. getD-set-other places k j to 0 ne in
         let back : suc k - 1 ≡ k = omega arith in
         let before-it : getD places (suc k - 2) 0 ≡ m = let e : suc k - 2 ≡ k - 1 = omega arith in rw e (old .ends) in
         record {
           marks =
               record {
                 some-place = omega arith;
-                few = omega (arith, so .marks .few);
+                few = omega (arith, so .marks .few, way .0);
                 starts = other 0 (λ e. omega (arith, old .some-place)) ∙ old .starts;
                 ends = rw back here;
                 inside = λ j h. inside-at j h (ℕ-discrete j k);
                 steps = λ j h. step-at j h (ℕ-discrete (suc j) k);
               };
-          falling = λ low. (omega (arith, old .some-place), rw (other (suc k - 2) (λ e. omega (arith, old .some-place)), before-it) (λ x a b. let e : x ≡ m = omega arith in rw e (omega (arith, low, up))));
+          falling = λ low. (omega (arith, old .some-place), rw (other (suc k - 2) (λ e. omega (arith, old .some-place)), before-it) (flat low));
         }
       where
-        inside-at : (j : ℕ) → j < suc k → Dec (j ≡ k) → getD (set places k (suc m)) j 0 ≤ suc m
-        inside-at j h (yes e) = rw (e, getD-set-same places k (suc m) 0 (omega (arith, so .marks .few))) (omega arith)
-        inside-at j h (no ne) = rw (getD-set-other places k j (suc m) 0 ne) (omega (arith, so .marks .inside j (omega arith)))
+        inside-at : (j : ℕ) → j < suc k → Dec (j ≡ k) → getD (set places k to) j 0 ≤ to
+        inside-at j h (yes e) = rw (e, getD-set-same places k to 0 (omega (arith, so .marks .few, way .0))) (omega arith)
+        inside-at j h (no ne) = rw (getD-set-other places k j to 0 ne) (omega (arith, so .marks .inside j (omega arith), way .0))
 
-        step-at : (j : ℕ) → suc j < suc k → Dec (suc j ≡ k) → Step T r (getD (set places k (suc m)) j 0) (getD (set places k (suc m)) (suc j) 0)
+        step-at : (j : ℕ) → suc j < suc k → Dec (suc j ≡ k) → Step T r (getD (set places k to) j 0) (getD (set places k to) (suc j) 0)
         step-at j h (yes e) =
             let was : getD places j 0 ≡ m = let b : j ≡ k - 1 = omega arith in rw b (so .marks .ends) in
-            rw (getD-set-other places k j (suc m) 0 (λ q. omega arith), was, e, getD-set-same places k (suc m) 0 (omega (arith, so .marks .few))) (omega arith, inl refl)
+            rw (getD-set-other places k j to 0 (λ q. omega arith), was, e, getD-set-same places k to 0 (omega (arith, so .marks .few, way .0))) way
         step-at j h (no ne) =
-            rw (getD-set-other places k j (suc m) 0 (λ q. omega arith), getD-set-other places k (suc j) (suc m) 0 ne) (so .marks .steps j (omega arith))
+            rw (getD-set-other places k j to 0 (λ q. omega arith), getD-set-other places k (suc j) to 0 ne) (so .marks .steps j (omega arith))
 
-    moved : last ≤ r → T (suc m) - T m ≤ r → Marking T r (suc m) (set places (k - 1) (suc m)) k (T (suc m) - T m)
-    moved low-last low-frame =
+    moved : last ≤ bar → new ≤ bar → Marking T r bar to (set places (k - 1) to) k new
+    moved low-last low-new =
         let old = so .marks in
         let (many, run) = so .falling low-last in
-        let short : k - 1 < length places = omega (arith, so .marks .few) in
-        let stays : getD (set places (k - 1) (suc m)) (k - 2) 0 ≡ getD places (k - 2) 0 = getD-set-other places (k - 1) (k - 2) (suc m) 0 (λ e. omega arith) in
-        let on : Low T r (getD places (k - 2) 0) (suc m) = λ x a b. further x a b (ℕ-discrete x m) run low-frame in
+        let short : k - 1 < length places = omega (arith, so .marks .few, way .0) in
+        let stays : getD (set places (k - 1) to) (k - 2) 0 ≡ getD places (k - 2) 0 = getD-set-other places (k - 1) (k - 2) to 0 (λ e. omega arith) in
+        let on : Low T r (getD places (k - 2) 0) to = λ x a b. further x a b (decLt x m) run (flat low-new) in
         record {
           marks =
               record {
                 some-place = old .some-place;
-                few = omega (arith, so .marks .few);
-                starts = getD-set-other places (k - 1) 0 (suc m) 0 (λ e. omega arith) ∙ old .starts;
-                ends = getD-set-same places (k - 1) (suc m) 0 short;
+                few = omega (arith, so .marks .few, way .0);
+                starts = getD-set-other places (k - 1) 0 to 0 (λ e. omega arith) ∙ old .starts;
+                ends = getD-set-same places (k - 1) to 0 short;
                 inside = λ j h. inside-at j h (ℕ-discrete j (k - 1));
                 steps = λ j h. step-at many on j h (ℕ-discrete (suc j) (k - 1));
               };
           falling = λ low. (many, rw stays on);
         }
       where
-        further : (x : ℕ) → getD places (k - 2) 0 ≤ x → x < suc m → Dec (x ≡ m) → Low T r (getD places (k - 2) 0) m → T (suc m) - T m ≤ r → T (suc x) ≤ T x + r
-        further x a b (yes e) run low = rw e (omega (arith, low, up))
-        further x a b (no ne) run low = run x a (omega arith)
+        further : (x : ℕ) → getD places (k - 2) 0 ≤ x → x < to → Dec (x < m) → Low T r (getD places (k - 2) 0) m → Low T r m to → T (suc x) ≤ T x + r
+        further x a b (yes l) run low = run x a l
+        further x a b (no ne) run low = low x (omega arith) b
 
-        inside-at : (j : ℕ) → j < k → Dec (j ≡ k - 1) → getD (set places (k - 1) (suc m)) j 0 ≤ suc m
-        inside-at j h (yes e) = rw (e, getD-set-same places (k - 1) (suc m) 0 (omega (arith, so .marks .few))) (omega arith)
-        inside-at j h (no ne) = rw (getD-set-other places (k - 1) j (suc m) 0 ne) (omega (arith, so .marks .inside j h))
+        inside-at : (j : ℕ) → j < k → Dec (j ≡ k - 1) → getD (set places (k - 1) to) j 0 ≤ to
+        inside-at j h (yes e) = rw (e, getD-set-same places (k - 1) to 0 (omega (arith, so .marks .few, way .0))) (omega arith)
+        inside-at j h (no ne) = rw (getD-set-other places (k - 1) j to 0 ne) (omega (arith, so .marks .inside j h, way .0))
 
-        step-at : 1 < k → Low T r (getD places (k - 2) 0) (suc m) → (j : ℕ) → suc j < k → Dec (suc j ≡ k - 1)
-            → Step T r (getD (set places (k - 1) (suc m)) j 0) (getD (set places (k - 1) (suc m)) (suc j) 0)
+        step-at : 1 < k → Low T r (getD places (k - 2) 0) to → (j : ℕ) → suc j < k → Dec (suc j ≡ k - 1)
+            → Step T r (getD (set places (k - 1) to) j 0) (getD (set places (k - 1) to) (suc j) 0)
         step-at many on j h (yes e) =
             let b : j ≡ k - 2 = omega arith in
             let under = so .marks .inside (k - 2) (omega arith) in
-            rw (e, getD-set-same places (k - 1) (suc m) 0 (omega (arith, so .marks .few)), getD-set-other places (k - 1) j (suc m) 0 (λ q. omega arith), b) (omega (arith, under), inr on)
+            rw (e, getD-set-same places (k - 1) to 0 (omega (arith, so .marks .few, way .0)), getD-set-other places (k - 1) j to 0 (λ q. omega arith), b) (omega (arith, under, way .0), inr on)
         step-at many on j h (no ne) =
-            rw (getD-set-other places (k - 1) j (suc m) 0 (λ q. omega arith), getD-set-other places (k - 1) (suc j) (suc m) 0 ne) (so .marks .steps j h)
+            rw (getD-set-other places (k - 1) j to 0 (λ q. omega arith), getD-set-other places (k - 1) (suc j) to 0 ne) (so .marks .steps j h)
 
-    pub mark-next : (k′ : ℕ) → Kept k last (T (suc m) - T m) r k′ → Marking T r (suc m) (set places (k′ - 1) (suc m)) k′ (T (suc m) - T m)
+    pub mark-next : (k′ : ℕ) → Kept k last new bar k′ → Marking T r bar to (set places (k′ - 1) to) k′ new
     mark-next k′ how = go (ℕ-discrete k′ k)
       where
-        go : Dec (k′ ≡ k) → Marking T r (suc m) (set places (k′ - 1) (suc m)) k′ (T (suc m) - T m)
+        go : Dec (k′ ≡ k) → Marking T r bar to (set places (k′ - 1) to) k′ new
         go (yes e) = let (a, b) = how .low e in rw e (moved a b)
         go (no ne) =
             let e : k′ ≡ suc k = omega (arith, how .from, how .to) in
             let back : suc k - 1 ≡ k = omega arith in
             rw (e, back) kept
+
+-- ---- places gone through again
+
+module _ (T : ℕ → ℕ) (low M : ℕ) (old places : List ℕ) (count j k last at to grown k′ : ℕ) (marks : Marks T low M old count) (some : 0 < j) (more : j < count)
+    (few : k ≤ j) (here : at ≡ getD old (j - 1) 0) (next : to ≡ getD places j 0) (room : M < length places)
+    (rest : (u : ℕ) → j ≤ u → getD places u 0 ≡ getD old u 0) (so : Marking T low 0 at places k last) (left : grown ≡ 0 → T to - T at ≤ low * (to - at))
+    (how : Kept k last grown 0 k′) where
+  pub next-is : to ≡ getD old j 0
+  next-is = next ∙ rest j (omega arith)
+
+  pub next-step : Step T low at to
+  next-step =
+      let e : suc (j - 1) ≡ j = omega arith in
+      rw (here, next-is) (rw e at (marks .steps (j - 1) (omega arith)))
+
+  pub rest-again : (u : ℕ) → j + 1 ≤ u → getD (set places (k′ - 1) to) u 0 ≡ getD old u 0
+  rest-again u h = getD-set-other places (k′ - 1) u to 0 (λ e. omega (arith, how .to)) ∙ rest u (omega arith)
+
+  pub coarse-next : Marking T low 0 to (set places (k′ - 1) to) k′ grown
+  coarse-next =
+      mark-next T low 0 at to k last grown places so (omega (arith, next-is, marks .inside j more)) next-step
+      (λ h. step-low T low 0 at to next-step (left (omega arith))) k′ how

@@ -1,10 +1,11 @@
 -- What the rate question's inner functions are handed and give.
-use mathlib.Core.Bool.{true, cond}
+use mathlib.Core.Bool.{true, false, cond}
 use mathlib.Core.List.{List}
 use mathlib.Core.Logic.{_⊎_}
 use mathlib.Core.Path.{_≡_}
-use Prim.Native.Nat.{ℕ, zero, suc, _+_, _-_, _*_, _≤_, _<_, max}
+use Prim.Native.Nat.{ℕ, zero, suc, _+_, _-_, _*_, _≤_, _<_, max, min}
 use lib.ListN.{length, getD}
+use lib.Dec.{eqb}
 use Rattle.base.specs.Range.{leastOver}
 use Rattle.base.specs.Table.{tab}
 use Rattle.job.specs.Limits.{mostNodes, mostFrames, longestDelay, greatestRate, greatestTotal}
@@ -73,13 +74,36 @@ needOf sums r = mostAhead (sumsIn sums) r (length sums - 1)
 abbrev pub fourOf : (ℕ → ℕ) → Four → Four
 fourOf f r = record { a = f (r .a); b = f (r .b); c = f (r .c); d = f (r .d) }
 
--- the floor rate of each link's node below n is among the first `count` rates, at the node's place; no rate is less than the least
-pub record FloorsOf (t : Tree) (n : ℕ) (rates : List ℕ) (count : ℕ) (place : List ℕ) : Type 0 where
-  pub few : count ≤ mostNodes
-  pub placed : (i : ℕ) → link n i ≡ true → getD place i 0 < count
-  pub right : (i : ℕ) → link n i ≡ true → getD rates (getD place i 0) 0 ≡ floorRate t i
-  pub least : (u : ℕ) → u < mostNodes → leastRate t ≤ getD rates u 0
-  pub greatest : (u : ℕ) → u < mostNodes → getD rates u 0 ≤ greatestRate
+-- the floor rate of each link's node below n is at the node's place; no rate is less than the least
+pub record FloorsOf (t : Tree) (n : ℕ) (floors : List ℕ) : Type 0 where
+  pub long : length floors ≡ mostNodes
+  pub right : (i : ℕ) → link n i ≡ true → getD floors i 0 ≡ floorRate t i
+  pub least : (u : ℕ) → u < mostNodes → leastRate t ≤ getD floors u 0
+  pub greatest : (u : ℕ) → u < mostNodes → getD floors u 0 ≤ greatestRate
+
+-- r is the least from y on of the first u rates, and the greatest that a rate can be where none of them is
+pub record NextRate (floors : List ℕ) (u y r : ℕ) : Type 0 where
+  pub from : min y greatestRate ≤ r
+  pub to : r ≤ greatestRate
+  pub least : (v : ℕ) → v < u → y ≤ getD floors v 0 → r ≤ getD floors v 0
+
+-- four such rates, each after the one before it
+pub record NextFour (floors : List ℕ) (y : ℕ) (r : Four) : Type 0 where
+  pub a : NextRate floors mostNodes y (r .a)
+  pub b : NextRate floors mostNodes (r .a + 1) (r .b)
+  pub c : NextRate floors mostNodes (r .b + 1) (r .c)
+  pub d : NextRate floors mostNodes (r .c + 1) (r .d)
+
+-- the number of x at which r has the rate; what there was where it hasn't
+unfoldable pub chosen : Four → Four → ℕ → ℕ → ℕ
+chosen r x rate old =
+    cond (eqb rate (r .a)) (x .a) (cond (eqb rate (r .b)) (x .b) (cond (eqb rate (r .c)) (x .c) (cond (eqb rate (r .d)) (x .d) old)))
+
+-- such numbers for the nodes of the links below n, each by its floor rate
+pub record HandedOut (n : ℕ) (floors : List ℕ) (r x : Four) (old new : List ℕ) : Type 0 where
+  pub long : length new ≡ mostNodes
+  pub handed : (i : ℕ) → link n i ≡ true → getD new i 0 ≡ chosen r x (getD floors i 0) (getD old i 0)
+  pub left : (i : ℕ) → link n i ≡ false → getD new i 0 ≡ getD old i 0
 
 -- x is the least delay from w on with T ≤ r × (m + x); one more than the longest delay where none up to that is
 pub record Later (T r m w x : ℕ) : Type 0 where
@@ -91,6 +115,12 @@ pub record Later (T r m w x : ℕ) : Type 0 where
 -- the need of each node at its place, from the sums T(0) to T(M)
 abbrev pub needsOf : Tree → List ℕ → List ℕ
 needsOf t sums = tab (perNode (t .n) (λ i. needOf sums (floorRate t i))) mostNodes
+
+-- the needs of the nodes whose floor rates are below y
+pub record NeedsBelow (t : Tree) (sums : List ℕ) (y : ℕ) (needs : List ℕ) : Type 0 where
+  pub long : length needs ≡ mostNodes
+  pub found : (i : ℕ) → link (t .n) i ≡ true → floorRate t i < y → getD needs i 0 ≡ needOf sums (floorRate t i)
+  pub none : (i : ℕ) → link (t .n) i ≡ false → getD needs i 0 ≡ 0
 
 -- what is asked of a list of needs: none is more than a film, and no child's is more than its parent's
 pub record Needs (t : Tree) (needs : List ℕ) : Type 0 where

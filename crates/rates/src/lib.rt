@@ -16,7 +16,7 @@ ghost use Rattle.job.proofs.RefusalLaws.{Accepted};
 ghost use Rattle.curves.specs.Curves.{sumsIn, HoldsSums};
 ghost use Rattle.rates.specs.Rates.{total, floorRate, leastRate, inTime};
 ghost use Rattle.rates.specs.Answer.{Sizes};
-ghost use Rattle.rates.specs.Work.{Later, furtherOf, Kept, Marks, Marked, needOf, fourOf, FloorsOf, needsOf, Needs, memoryBy, Worked};
+ghost use Rattle.rates.specs.Work.{Later, furtherOf, Kept, Marks, Marked, needOf, fourOf, FloorsOf, NextRate, NextFour, chosen, HandedOut, needsOf, Needs, memoryBy, Worked};
 use job::Job;
 use job::Node;
 
@@ -112,18 +112,18 @@ pub struct Four {
     pub d: u64,
 }
 
-// The different floor rates, how many they are, and where each node's is.
-pub struct Floors {
-    pub rates: [u64; Job::MOST_NODES],
-    pub count: usize,
-    pub place: [usize; Job::MOST_NODES],
-}
-
 // By how much a is more than b; 0 where it isn't.
 fn over(a: u64, b: u64) -> u64
     ensures { λ r. ⌜ r ≡ a - b ⌝ }
 {
     if b < a { a - b } else { 0 }
+}
+
+// 1 where a is more than b, else 0: a number, so that the pass that asks has no branch to guess.
+fn exceeds(a: u64, b: u64) -> u64
+    ensures { λ r. ⌜ (r ≡ 0 → a ≤ b) ⌝ }
+{
+    if b < a { 1 } else { 0 }
 }
 
 // The lead some slots further, in which so much is played.
@@ -157,7 +157,7 @@ fn places_room() -> [usize; Job::MOST_FRAMES + 1]
 // than `low`, in which no lead grows.
 fn mark(sums: &[u64], low: u64, places: &mut [usize; Job::MOST_FRAMES + 1]) -> usize
     requires { ⌜ HoldsSums (now sums) × ((length (now sums) ≤ mostFrames + 1) × ((low ≤ greatestRate) × (mostFrames + 1 ≡ length (now places)))) ⌝ }
-    ensures { λ k. ⌜ Marks (sumsIn (now (sums .entry))) low (length (now (sums .entry)) - 1) (now (places .exit)) k ⌝ }
+    ensures { λ k. ⌜ (mostFrames + 1 ≡ length (now (places .exit))) × Marks (sumsIn (now (sums .entry))) low (length (now (sums .entry)) - 1) (now (places .exit)) k ⌝ }
 {
     // Before the first frame, as if a larger one had been there.
     let mut last = low + 1;
@@ -208,117 +208,130 @@ fn four_needs(sums: &[u64], places: &[usize; Job::MOST_FRAMES + 1], count: usize
     }
 }
 
-// Where a rate is among the first ones; their count where it isn't.
-fn place_of(rates: &[u64; Job::MOST_NODES], count: usize, x: u64) -> usize
-    requires { ⌜ count ≤ mostNodes ⌝ }
-    ensures { λ k. ⌜ (k ≤ count) × (k < count → getD (now (rates .entry)) k 0 ≡ x) ⌝ }
-{
-    let mut k = 0;
-    while k < count {
-        if rates[k] == x {
-            return k;
-        }
-        k += 1;
-    }
-    count
-}
-
-// As many as there were, or up to place k.
-fn counted(count: usize, k: usize) -> usize
-    requires { ⌜ k < mostNodes ⌝ }
-    ensures { λ r. ⌜ r ≡ max count (k + 1) ⌝ }
-{
-    if k < count { count } else { k + 1 }
-}
-
-// The floor rates of all nodes, each once: nodes with one floor rate have one need.
-fn floor_rates(job: Job, low: u64) -> Floors
-    requires { ⌜ TreeWithin (treeIn job) × (low ≡ leastRate (treeIn job)) ⌝ }
-    ensures { λ f. ⌜ FloorsOf (treeIn job) (job .nodes) (f .rates) (f .count) (f .place) ⌝ }
-{
-    let nodes = job.nodes;
-    let mut rates = [low; Job::MOST_NODES];
-    let mut place = [0usize; Job::MOST_NODES];
-    let mut count = 0;
-    let mut i = 1;
-    while i < nodes {
-        let rate = floor_rate(job, i);
-        let k = place_of(&rates, count, rate);
-        rates[k] = rate;
-        place[i] = k;
-        count = counted(count, k);
-        i += 1;
-    }
-    Floors {
-        rates,
-        count,
-        place,
-    }
-}
-
-// The needs at the first so many rates.
-fn rate_needs(
+// As few places as do where no rate is less than `low`: two steps in a row in which no lead grows are one.
+fn coarsen(
     sums: &[u64],
-    places: &[usize; Job::MOST_FRAMES + 1],
-    marks: usize,
-    rates: &[u64; Job::MOST_NODES],
+    low: u64,
+    places: &mut [usize; Job::MOST_FRAMES + 1],
     count: usize,
-) -> [u64; Job::MOST_NODES]
-    requires { ⌜ HoldsSums (now sums) × ((length (now sums) ≤ mostFrames + 1) × ((count ≤ mostNodes) × ((u : ℕ) → u < mostNodes → Marked (now sums) (now places) marks (getD (now rates) u 0)))) ⌝ }
-    ensures { λ x. ⌜ (length x ≡ mostNodes) × ((u : ℕ) → u < count → getD x u 0 ≡ needOf (now (sums .entry)) (getD (now (rates .entry)) u 0)) ⌝ }
+) -> usize
+    requires { ⌜ HoldsSums (now sums) × ((length (now sums) ≤ mostFrames + 1) × ((low ≤ greatestRate) × ((mostFrames + 1 ≡ length (now places)) × Marks (sumsIn (now sums)) low (length (now sums) - 1) (now places) count))) ⌝ }
+    ensures { λ k. ⌜ (mostFrames + 1 ≡ length (now (places .exit))) × Marks (sumsIn (now (sums .entry))) low (length (now (sums .entry)) - 1) (now (places .exit)) k ⌝ }
 {
-    let mut out = [0u64; Job::MOST_NODES];
-    let mut g = 0;
-    while 4 * g < count {
-        let k = 4 * g;
-        let r = Four {
-            a: rates[k],
-            b: rates[k + 1],
-            c: rates[k + 2],
-            d: rates[k + 3],
-        };
-        let x = four_needs(sums, places, marks, r);
-        out[k] = x.a;
-        out[k + 1] = x.b;
-        out[k + 2] = x.c;
-        out[k + 3] = x.d;
-        g += 1;
+    let mut last = 1;
+    let mut at = 0;
+    let mut k = 1;
+    let mut j = 1;
+    while j < count {
+        let to = places[j];
+        let grown = exceeds(sums[to] - sums[at], low * (to - at) as u64);
+        k = more(k, last, grown, 0);
+        places[k - 1] = to;
+        last = grown;
+        at = to;
+        j += 1;
     }
-    out
+    k
 }
 
-// To each node the number at its place.
-fn spread(
-    job: Job,
-    place: &[usize; Job::MOST_NODES],
-    numbers: &[u64; Job::MOST_NODES],
-) -> [u64; Job::MOST_NODES]
-    requires { ⌜ TreeWithin (treeIn job) × ((i : ℕ) → link (job .nodes) i ≡ true → getD (now place) i 0 < mostNodes) ⌝ }
-    ensures { λ r. ⌜ r ≡ tab (perNode (job .nodes) (λ i. getD (now (numbers .entry)) (getD (now (place .entry)) i 0) 0)) mostNodes ⌝ }
+// The floor rate of each node at its place; at other places a rate that is as high as any.
+fn floor_rates(job: Job) -> [u64; Job::MOST_NODES]
+    requires { ⌜ TreeWithin (treeIn job) ⌝ }
+    ensures { λ r. ⌜ FloorsOf (treeIn job) (job .nodes) r ⌝ }
 {
     let nodes = job.nodes;
-    let mut out = [0u64; Job::MOST_NODES];
+    let mut floors = [Node::GREATEST_RATE; Job::MOST_NODES];
     let mut i = 1;
     while i < nodes {
-        out[i] = numbers[place[i]];
+        floors[i] = floor_rate(job, i);
         i += 1;
     }
-    out
+    floors
 }
 
-// The need of each node at its place.
+// The lesser of two rates, if the second is not below y.
+fn nearer(rate: u64, other: u64, y: u64) -> u64
+    ensures { λ r. ⌜ ((y ≤ other → r ≡ min rate other) × (other < y → r ≡ rate)) ⌝ }
+{
+    if other < y { rate } else { lesser(rate, other) }
+}
+
+// The least rate from y on.
+fn next_rate(floors: &[u64; Job::MOST_NODES], y: u64) -> u64
+    ensures { λ r. ⌜ NextRate (now (floors .entry)) mostNodes y r ⌝ }
+{
+    let mut rate = Node::GREATEST_RATE;
+    let mut u = 0;
+    while u < Job::MOST_NODES {
+        rate = nearer(rate, floors[u], y);
+        u += 1;
+    }
+    rate
+}
+
+// The four least rates from y on.
+fn next_four(floors: &[u64; Job::MOST_NODES], y: u64) -> Four
+    ensures { λ r. ⌜ NextFour (now (floors .entry)) y r ⌝ }
+{
+    let a = next_rate(floors, y);
+    let b = next_rate(floors, a + 1);
+    let c = next_rate(floors, b + 1);
+    let d = next_rate(floors, c + 1);
+    Four { a, b, c, d }
+}
+
+// The number of x at which r has the rate; what there was where it hasn't.
+fn choose(r: Four, x: Four, rate: u64, old: u64) -> u64
+    ensures { λ n. ⌜ n ≡ chosen r x rate old ⌝ }
+{
+    if rate == r.a {
+        return x.a;
+    }
+    if rate == r.b {
+        return x.b;
+    }
+    if rate == r.c {
+        return x.c;
+    }
+    if rate == r.d { x.d } else { old }
+}
+
+// The needs at four rates, to the nodes whose floor rates these are.
+fn hand_out(
+    nodes: usize,
+    floors: &[u64; Job::MOST_NODES],
+    r: Four,
+    x: Four,
+    needs: &mut [u64; Job::MOST_NODES],
+)
+    requires { ⌜ (0 < nodes) × ((nodes ≤ mostNodes) × (length (now needs) ≡ mostNodes)) ⌝ }
+    ensures { λ _. ⌜ HandedOut nodes (now (floors .entry)) r x (now (needs .entry)) (now (needs .exit)) ⌝ }
+{
+    let mut i = 1;
+    while i < nodes {
+        needs[i] = choose(r, x, floors[i], needs[i]);
+        i += 1;
+    }
+}
+
+// The need of each node at its place: four rates at a time, the lowest first, as the higher ones have fewer places to stop at.
 fn needs(job: Job, sums: &[u64]) -> [u64; Job::MOST_NODES]
     requires { ⌜ TreeWithin (treeIn job) × (HoldsSums (now sums) × (length (now sums) ≤ mostFrames + 1)) ⌝ }
     ensures { λ r. ⌜ r ≡ needsOf (treeIn job) (now (sums .entry)) ⌝ }
 {
-    let low = least_rate(job);
+    let floors = floor_rates(job);
     let mut places = places_room();
-    let marks = mark(sums, low, &mut places);
-    let floors = floor_rates(job, low);
-    let rates = floors.rates;
-    let place = floors.place;
-    let numbers = rate_needs(sums, &places, marks, &rates, floors.count);
-    spread(job, &place, &numbers)
+    let mut y = least_rate(job);
+    let mut marks = mark(sums, y, &mut places);
+    let mut needs = [0u64; Job::MOST_NODES];
+    while y <= Node::GREATEST_RATE {
+        let r = next_four(&floors, y);
+        marks = coarsen(sums, r.a, &mut places, marks);
+        let x = four_needs(sums, &places, marks, r);
+        hand_out(job.nodes, &floors, r, x, &mut needs);
+        y = r.d + 1;
+    }
+    needs
 }
 
 // A node's memory from the needs.

@@ -12,11 +12,13 @@ use lib.Seq.{getD-set-same}
 use Rattle.job.specs.Limits.{mostFrames}
 use Rattle.curves.specs.Curves.{sumsIn}
 use Rattle.curves.proofs.SumsLaws.{film-of}
+use mathlib.Core.Logic.{inl}
+use Rattle.rates.specs.Work.{Low}
 use Rattle.rates.proofs.SumLaws.{sum-at}
 use Rattle.rates.proofs.MarkLaws.{Marking, mark-start, mark-next}
 
 abbrev Inv-loop : tie.InvT-loop
-Inv-loop sums low places₀ last₀ k₀ m₀ places last k m = (0 < m) × ((m ≤ length sums) × ((mostFrames + 1 ≡ length places) × Marking (sumsIn sums) low (m - 1) places k last))
+Inv-loop sums low places₀ last₀ k₀ m₀ places last k m = (0 < m) × ((m ≤ length sums) × ((mostFrames + 1 ≡ length places) × Marking (sumsIn sums) low low (m - 1) places k last))
 
 abbrev μ-loop : tie.MeasureT-loop
 μ-loop sums low places₀ last₀ k₀ m₀ places last k m = length sums - m
@@ -31,7 +33,7 @@ loop-holds : tie.Need-loop-holds Inv-loop μ-loop
 loop-holds c =
     let places = c .before .args .places .now in
     let long = c .before .pre .1 .1 .1 in
-    (omega arith, (omega (arith, c .before .pre .0 .some-sum), (long ∙ sym (length-set places 0 0), mark-start (sumsIn (c .before .args .sums .now)) (c .before .args .low) _ (getD-set-same places 0 0 0 (omega (arith, long))))))
+    (omega arith, (omega (arith, c .before .pre .0 .some-sum), (long ∙ sym (length-set places 0 0), mark-start (sumsIn (c .before .args .sums .now)) (c .before .args .low) (c .before .args .low) _ (getD-set-same places 0 0 0 (omega (arith, long))))))
 
 mul-frame : tie.Need-mul-frame Inv-loop μ-loop
 mul-frame c = search needs
@@ -79,13 +81,18 @@ loop-again c =
     let here : getD sums m 0 ≡ T m = sum-at sums m (c .before .before .before .loop-test .taken) in
     let last : getD sums (m - 1) 0 ≡ T (m - 1) = sum-at sums (m - 1) (omega (arith, c .before .before .before .loop-test .taken)) in
     let how = rw (here ∙ ap T this, last) at (c .more .ensures) in
-    let next = mark-next T (c .before .before .before .before .before .before .args .low) (m - 1) (c .before .before .before .before .loop .k) (c .before .before .before .before .loop .last) (c .before .before .before .before .loop .places) (c .before .before .before .before .loop .inv .1 .1 .1) (omega (arith, c .before .before .before .before .loop .inv .1 .1 .0, c .before .before .before .loop-test .taken, c .before .before .before .before .before .before .pre .1 .0)) (film-of sums (c .before .before .before .before .before .before .pre .0) .grows (m - 1) (suc (m - 1)) (omega arith)) (c .more .result) how in
+    let low = c .before .before .before .before .before .before .args .low in
+    let l = c .before .before .before .before .loop in
+    let up : T (m - 1) ≤ T (suc (m - 1)) = film-of sums (c .before .before .before .before .before .before .pre .0) .grows (m - 1) (suc (m - 1)) (omega arith) in
+    let room : suc (m - 1) < length (l .places) = omega (arith, l .inv .1 .1 .0, c .before .before .before .loop-test .taken, c .before .before .before .before .before .before .pre .1 .0, l .inv .0) in
+    let flat : T (suc (m - 1)) - T (m - 1) ≤ low → Low T low (m - 1) (suc (m - 1)) = λ h x a b. let e : x ≡ m - 1 = omega arith in rw e (omega (arith, h, up)) in
+    let next = mark-next T low low (m - 1) (suc (m - 1)) (l .k) (l .last) (T (suc (m - 1)) - T (m - 1)) (l .places) (l .inv .1 .1 .1) room (omega arith, inl refl) flat (c .more .result) how in
     (omega arith, (omega (arith, c .before .before .before .loop-test .taken), (c .before .before .before .before .loop .inv .1 .1 .0 ∙ sym (length-set (c .before .before .before .before .loop .places) (c .more .result - 1) m), rw (back, here, last) (rw (sym this) at next))))
 
 returns : tie.Need-returns Inv-loop μ-loop
 returns c =
     let e : c .before .loop .m ≡ length (c .before .before .before .args .sums .now) = omega (arith, c .loop-test .left, c .before .loop .inv .1 .0) in
-    rw e at (c .before .loop .inv .1 .1 .1 .marks)
+    (c .before .loop .inv .1 .1 .0, rw e at (c .before .loop .inv .1 .1 .1 .marks))
 
 pub mark-spec : {M : Type 1} → statement M
 mark-spec =

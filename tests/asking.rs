@@ -16,9 +16,6 @@ use crate::{brute, reader};
 /// The numbers of the memory question: 0, and the refusals 1 to 12.
 const NUMBERS: usize = 13;
 
-/// Guard bytes on each side of a job's bytes.
-const GUARD: usize = 32;
-
 /// A job, or bytes that are none, and the lengths of the lent outputs.
 pub struct Case {
     bytes: Vec<u8>,
@@ -232,26 +229,16 @@ pub fn ask(
     plan: usize,
     peaks: usize,
     round: usize,
-) -> Result<(MemoryAnswer, Lent, Lent), Problem> {
-    let fill = [0x00, 0xA5][round];
-    let start = GUARD + (bytes.len() + 5 * round) % 8;
-    let end = start + bytes.len();
-    let mut lent = vec![fill; end + GUARD];
-    lent[start..end].copy_from_slice(bytes);
-    let before = lent.clone();
-    let mut plan = Lent::new(plan, 1 + 2 * round as u64);
-    let mut peaks = Lent::new(peaks, 2 + 2 * round as u64);
-    let parts = (plan.part(), peaks.part());
+) -> Result<(MemoryAnswer, Lent<u64>, Lent<u64>), Problem> {
+    let mut job = Lent::bytes(bytes, round);
+    let mut plan = Lent::output(plan, 1 + 2 * round as u64);
+    let mut peaks = Lent::output(peaks, 2 + 2 * round as u64);
 
-    let got = memory_question(
-        (&mut lent, start..end),
-        (plan.buffer(), parts.0),
-        (peaks.buffer(), parts.1),
-    );
+    let got = memory_question(job.part(), plan.part(), peaks.part());
 
     let guards = plan.guards_kept() && peaks.guards_kept();
     equal("guard words kept", 1, u64::from(guards))?;
-    equal("the job's bytes kept", 1, u64::from(lent == before))?;
+    equal("the job's bytes kept", 1, u64::from(job.untouched()))?;
     if got.number != 0 {
         let untouched = plan.untouched() && peaks.untouched();
         equal("lent words kept on a refusal", 1, u64::from(untouched))?;

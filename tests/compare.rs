@@ -5,17 +5,11 @@ use std::fmt;
 use std::hash::{DefaultHasher, Hash, Hasher};
 
 use crate::job::MOST_NODES;
+use crate::lending::Lent;
 use crate::{library, reader};
 
 /// The numbers of a job's bytes: 0, and the refusals 1 to 10.
 const NUMBERS: usize = 11;
-
-/// Least number of guard bytes on each side of the string.
-const GUARD: usize = 32;
-
-/// What the guard bytes hold in the first call and in the second: an answer that
-/// depends on them shows a read outside the string.
-const FILLS: [u8; 2] = [0x00, 0xA5];
 
 /// Most bytes of a string that are printed.
 const HEX_BYTES: usize = 4_096;
@@ -102,7 +96,6 @@ pub struct Tally {
     /// Answers of the independent reader held against the generator.
     pub known: u64,
     seen: HashSet<u64>,
-    buffer: Vec<u8>,
 }
 
 impl Tally {
@@ -114,7 +107,6 @@ impl Tally {
             node_counts: [0; MOST_NODES + 1],
             known: 0,
             seen: HashSet::new(),
-            buffer: Vec::new(),
         }
     }
 
@@ -150,12 +142,13 @@ impl Tally {
             }
             self.known += 1;
         }
-        for fill in FILLS {
-            let (got, kept) = self.call(&case.bytes, fill);
+        for round in 0..2 {
+            let mut lent = Lent::bytes(&case.bytes, round);
+            let got = library::refusal(lent.part());
             if got != expected {
                 return Some(("library against the independent reader", expected, got));
             }
-            if !kept {
+            if !lent.untouched() {
                 return Some((
                     "library wrote to the lent bytes or beside them",
                     expected,
@@ -164,22 +157,6 @@ impl Tally {
             }
         }
         None
-    }
-
-    /// The library's answer for `bytes` between guard bytes, at an alignment
-    /// that varies, and whether it left all of them as they were.
-    fn call(&mut self, bytes: &[u8], fill: u8) -> (u64, bool) {
-        let start = GUARD + ((self.strings + u64::from(fill)) % 16) as usize;
-        let end = start + bytes.len();
-        self.buffer.clear();
-        self.buffer.resize(end + GUARD, fill);
-        self.buffer[start..end].copy_from_slice(bytes);
-
-        let got = library::refusal(&mut self.buffer, start..end);
-
-        let guards = self.buffer[..start].iter().chain(&self.buffer[end..]);
-        let kept = self.buffer[start..end] == *bytes && guards.copied().all(|byte| byte == fill);
-        (got, kept)
     }
 }
 

@@ -1,58 +1,88 @@
-//! Words lent to the library, between guard words.
+//! What is lent to the library. It lies between guards, each on the heap in an
+//! allocation of its own.
+//!
+//! Where the variable `RELAY_TIGHT` is set no guard follows: the lent part then ends
+//! where its allocation does, so that a memory checker sees the first item past it.
 
 use std::ops::Range;
+use std::sync::OnceLock;
 
-/// Guard words on each side.
-const GUARD: usize = 16;
+use crate::library::Part;
+
+/// Least number of guards on each side.
+const GUARD: usize = 32;
 
 /// Odd, so that its multiples by different words differ.
 const FACTOR: u64 = 0x9E37_79B9_7F4A_7C15;
 
-pub struct Lent {
-    words: Vec<u64>,
-    /// Sets the words of one buffer apart from those of another.
-    salt: u64,
+/// Whether the lent parts end where their allocations do.
+pub fn tight() -> bool {
+    static TIGHT: OnceLock<bool> = OnceLock::new();
+    *TIGHT.get_or_init(|| std::env::var_os("RELAY_TIGHT").is_some())
 }
 
-impl Lent {
-    /// A part of `length` words; these and the guards are distinct and not 0.
-    pub fn new(length: usize, salt: u64) -> Self {
-        let words = (0..length + 2 * GUARD).map(|at| word(at, salt));
+/// Items between guards, and all of these as they were before they were lent. The
+/// slices are boxed, so that no room is left behind them.
+pub struct Lent<T> {
+    buffer: Box<[T]>,
+    before: Box<[T]>,
+    part: Range<usize>,
+}
+
+impl<T: Copy + PartialEq> Lent<T> {
+    /// `items` between guards that hold `fill`, with `shift` more of them in front.
+    fn new(items: &[T], fill: T, shift: usize) -> Self {
+        let (front, back) = if tight() { (0, 0) } else { (GUARD, GUARD) };
+        let start = front + shift;
+        let part = start..start + items.len();
+        let mut buffer = vec![fill; part.end + back].into_boxed_slice();
+        buffer[part.clone()].copy_from_slice(items);
         Lent {
-            words: words.collect(),
-            salt,
+            before: buffer.clone(),
+            buffer,
+            part,
         }
     }
 
-    /// Where the lent part lies in the buffer.
-    pub fn part(&self) -> Range<usize> {
-        GUARD..self.words.len() - GUARD
+    /// The buffer and the part of it that is lent.
+    pub fn part(&mut self) -> Part<'_, T> {
+        (&mut self.buffer, self.part.clone())
     }
 
-    /// The buffer, guards and all.
-    pub fn buffer(&mut self) -> &mut [u64] {
-        &mut self.words
-    }
-
-    /// The lent part.
-    pub fn held(&self) -> &[u64] {
-        &self.words[self.part()]
+    /// What the lent part holds.
+    pub fn held(&self) -> &[T] {
+        &self.buffer[self.part.clone()]
     }
 
     pub fn guards_kept(&self) -> bool {
-        let part = self.part();
-        self.same(0..part.start) && self.same(part.end..self.words.len())
+        let Range { start, end } = self.part;
+        self.buffer[..start] == self.before[..start] && self.buffer[end..] == self.before[end..]
     }
 
     pub fn untouched(&self) -> bool {
-        self.same(0..self.words.len())
-    }
-
-    fn same(&self, mut places: Range<usize>) -> bool {
-        places.all(|at| self.words[at] == word(at, self.salt))
+        self.buffer == self.before
     }
 }
 
-fn word(at: usize, salt: u64) -> u64 {
-    ((salt << 32) + at as u64 + 1).wrapping_mul(FACTOR)
+/// What is lent to be read. The guards differ from round to round, of which there
+/// are two: an answer that depends on them shows a read outside the part.
+impl Lent<u8> {
+    /// Bytes, at an alignment that varies.
+    pub fn bytes(bytes: &[u8], round: usize) -> Self {
+        let shift = (bytes.len() + 5 * round) % 16;
+        Lent::new(bytes, [0x00, 0xA5][round], shift)
+    }
+}
+
+impl Lent<u64> {
+    pub fn words(words: &[u64], round: usize) -> Self {
+        Lent::new(words, [u64::MAX, 1][round], 0)
+    }
+
+    /// Words to be written over: distinct, not 0, and other words with another salt.
+    pub fn output(length: usize, salt: u64) -> Self {
+        let word = |at: usize| ((salt << 32) + at as u64 + 1).wrapping_mul(FACTOR);
+        let words: Vec<u64> = (0..length).map(word).collect();
+        Lent::new(&words, word(length), 0)
+    }
 }

@@ -29,17 +29,33 @@ pub struct Running {
     pub carried: [u64; PLACES],
 }
 
-#[repr(C)]
-struct StepNumbers {
-    number: u64,
-    link: u64,
+impl Running {
+    /// The first running tree: slot 0, and nothing carried.
+    pub fn start() -> Self {
+        Running::of(&[0; 1 + PLACES])
+    }
+
+    /// The running tree that `words` are.
+    pub fn of(words: &[u64]) -> Self {
+        let mut carried = [0; PLACES];
+        carried.copy_from_slice(&words[1..]);
+        Running {
+            slot: words[0],
+            carried,
+        }
+    }
+
+    pub fn words(&self) -> [u64; 1 + PLACES] {
+        let mut words = [self.slot; 1 + PLACES];
+        words[1..].copy_from_slice(&self.carried);
+        words
+    }
 }
 
-#[derive(Clone, Copy, PartialEq, Eq)]
-pub struct StepAnswer {
+#[repr(C)]
+pub struct StepNumbers {
     pub number: u64,
     pub link: u64,
-    pub tree: Running,
 }
 
 extern "C" {
@@ -95,14 +111,14 @@ fn lend<T>((buffer, part): Part<T>) -> (*mut T, usize) {
     )
 }
 
-/// The library's answer for the part `job` of `buffer`.
+/// The library's refusal of a job's bytes.
 ///
-/// The buffer is lent mutably, so that a write by the library, which would be a
+/// The bytes are lent mutably, so that a write by the library, which would be a
 /// fault, can be seen by the caller.
-pub fn refusal(buffer: &mut [u8], job: Range<usize>) -> u64 {
-    let (start, length) = lend((buffer, job));
-    // SAFETY: the part lies within the buffer.
-    unsafe { relay_refusal(start, length) }
+pub fn refusal(job: Part<u8>) -> u64 {
+    let (job, length) = lend(job);
+    // SAFETY: the part lies within its buffer.
+    unsafe { relay_refusal(job, length) }
 }
 
 /// The library's answer to the memory question.
@@ -137,55 +153,17 @@ pub fn put_back(job: Part<u8>, delay: u64, memories: Part<u64>) -> u64 {
     unsafe { relay_put_back(job, job_length, delay, memories, memories_length) }
 }
 
-/// The first running tree: slot 0, and nothing carried.
-pub fn start() -> Running {
-    Running {
-        slot: 0,
-        carried: [0; 64],
-    }
-}
-
-/// Words on both sides of the lent tree, which the library must leave alone.
-const GUARDS: [u64; 2] = [0x6c65_6674_7472_6565, 0x7269_6768_7472_6565];
-
-/// The library's step of a running tree, which is lent as its 65 numbers.
+/// The library's step of a running tree, which is lent as its numbers.
 ///
 /// The job and the plan are lent mutably, so that a write by the library, which
 /// would be a fault, can be seen by the caller.
 pub fn step(
-    tree: Running,
-    job: Part<u8>,
-    plan: Part<u64>,
-    sent: Part<u64>,
-    held: Part<u64>,
-) -> StepAnswer {
-    let mut numbers = [0; 67];
-    numbers[0] = GUARDS[0];
-    numbers[1] = tree.slot;
-    numbers[2..66].copy_from_slice(&tree.carried);
-    numbers[66] = GUARDS[1];
-    let (number, link) = step_lent((&mut numbers, 1..66), job, plan, sent, held);
-    assert_eq!([numbers[0], numbers[66]], GUARDS, "beside the lent tree");
-    let mut carried = [0; 64];
-    carried.copy_from_slice(&numbers[2..66]);
-    StepAnswer {
-        number,
-        link,
-        tree: Running {
-            slot: numbers[1],
-            carried,
-        },
-    }
-}
-
-/// The library's step of a tree of any length of numbers: the number and the link.
-pub fn step_lent(
     tree: Part<u64>,
     job: Part<u8>,
     plan: Part<u64>,
     sent: Part<u64>,
     held: Part<u64>,
-) -> (u64, u64) {
+) -> StepNumbers {
     let (tree, tree_length) = lend(tree);
     let (job, job_length) = lend(job);
     let (plan, plan_length) = lend(plan);
@@ -193,7 +171,7 @@ pub fn step_lent(
     let (held, held_length) = lend(held);
     // SAFETY: each part lies within its buffer, and the buffers do not overlap,
     // as each is lent mutably for the whole call.
-    let answer = unsafe {
+    unsafe {
         relay_step(
             tree,
             tree_length,
@@ -206,6 +184,5 @@ pub fn step_lent(
             held,
             held_length,
         )
-    };
-    (answer.number, answer.link)
+    }
 }

@@ -5,6 +5,7 @@ use crate::compare::Mismatch;
 use crate::edges::TREE_Q;
 use crate::faults::with_faults;
 use crate::job::{Job, GREATEST_AMOUNT, GREATEST_DELAY, MOST_FRAMES, MOST_NODES};
+use crate::lending::Lent;
 use crate::library::put_back;
 use crate::rng::Rng;
 use crate::shapes::{any_valid, valid, SHAPES};
@@ -17,9 +18,6 @@ const LEAST_PER_NUMBER: u64 = 500;
 
 /// The numbers: 0 and the refusals 1 to 11.
 const NUMBERS: usize = 12;
-
-/// Guards on each side of what is lent.
-const GUARD: usize = 32;
 
 /// Delays past the limit, some of which are short in their low bits alone.
 const LONG: [u64; 8] = [
@@ -213,32 +211,22 @@ pub fn put(
     memories: &[u64],
     round: usize,
 ) -> Result<(u64, Vec<u8>), Problem> {
-    let fill = [0x00, 0xA5][round];
-    let start = GUARD + (bytes.len() + 5 * round) % 8;
-    let end = start + bytes.len();
-    let mut lent = vec![fill; end + GUARD];
-    lent[start..end].copy_from_slice(bytes);
-    let word = [u64::MAX, 1][round];
-    let mut words = vec![word; memories.len() + 2 * GUARD];
-    let part = GUARD..GUARD + memories.len();
-    words[part.clone()].copy_from_slice(memories);
-    let before = words.clone();
+    let mut job = Lent::bytes(bytes, round);
+    let mut words = Lent::words(memories, round);
 
-    let number = put_back((&mut lent, start..end), delay, (&mut words, part));
+    let number = put_back(job.part(), delay, words.part());
 
-    let mut guards = lent[..start].iter().chain(&lent[end..]);
-    let kept = guards.all(|&byte| byte == fill);
-    equal("guard bytes kept", 1, u64::from(kept))?;
+    equal("guard bytes kept", 1, u64::from(job.guards_kept()))?;
     equal(
         "the memories and their guards kept",
         1,
-        u64::from(words == before),
+        u64::from(words.untouched()),
     )?;
-    let after = lent[start..end].to_vec();
     if number != 0 {
-        equal("the bytes kept on a refusal", 1, u64::from(after == bytes))?;
+        let kept = u64::from(job.untouched());
+        equal("the bytes kept on a refusal", 1, kept)?;
     }
-    Ok((number, after))
+    Ok((number, job.held().to_vec()))
 }
 
 /// Tree Q with delay 2 and memories 6, 0, 6, by hand.

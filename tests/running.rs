@@ -5,7 +5,7 @@ use crate::compare::Mismatch;
 use crate::edges::example_jobs;
 use crate::faults::with_faults;
 use crate::job::{Job, Record, GREATEST_AMOUNT, GREATEST_DELAY, GREATEST_FRAME, MOST_NODES};
-use crate::library::{memory_question, start, Running, PLACES};
+use crate::library::{memory_question, Running, PLACES};
 use crate::rng::Rng;
 use crate::rules::Rules;
 use crate::shapes::{few_frames, SHAPES};
@@ -186,7 +186,7 @@ fn plan_of(job: &Job) -> Option<Vec<u64>> {
 /// then holds more than its memory, and the next step has the number `last`; so
 /// has one more where that is done.
 fn run_plan(job: &Job, plan: Vec<u64>, taken: usize, last: u64, steps: &mut Steps) -> Found {
-    let mut case = Case::new(job.clone(), start(), plan);
+    let mut case = Case::new(job.clone(), Running::start(), plan);
     for slot in 1..=taken as u64 {
         let before = case.tree;
         case.tree = steps.known(&case, TAKEN)?.tree;
@@ -232,15 +232,9 @@ fn examples(_: &mut Rng, steps: &mut Steps) -> Found {
     ];
     for (job, rows) in rows {
         let plan = plan_of(&job).unwrap_or_default();
-        let case = Case::new(job.clone(), start(), plan.clone());
+        let case = Case::new(job.clone(), Running::start(), plan.clone());
         let same = u64::from(plan == rows);
         expect("the plan is the document's", 1, same, &case)?;
-        let first = Running {
-            slot: 0,
-            carried: [0; PLACES],
-        };
-        let same = u64::from(case.tree == first);
-        expect("the first tree has slot 0, all 0", 1, same, &case)?;
         let last = Rules::new(&job).last_slot();
         run_plan(&job, plan, last, DONE, steps)?;
     }
@@ -509,7 +503,7 @@ fn largest(rng: &mut Rng, steps: &mut Steps) -> Found {
     let (plan, links) = lengths(&job);
     let slots = plan / links;
     let plan = plan_of(&job).expect("the largest job has a plan");
-    let mut case = Case::new(job, start(), plan);
+    let mut case = Case::new(job, Running::start(), plan);
     for _ in 0..2 {
         case.tree = steps.known(&case, TAKEN)?.tree;
     }

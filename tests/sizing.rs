@@ -17,9 +17,6 @@ use crate::{lazy, reader, sizes_brute, writer};
 /// The numbers of the rate question: 0, the refusals 1 to 11 and 13.
 pub const NUMBERS: usize = 14;
 
-/// Guard bytes on each side of a job's bytes.
-const GUARD: usize = 32;
-
 /// Plans of more numbers are asked for only where a case says so.
 const MOST_ASKED: usize = 40_000;
 
@@ -312,20 +309,14 @@ fn filled(due: &[u64], got: &[u64]) -> Result<(), Problem> {
 
 /// Asks the library. Guards, the job's bytes and, on a refusal, the lent words
 /// must be as they were. The words and the alignment differ from round to round.
-fn call(bytes: &[u8], memories: usize, round: usize) -> Result<(RateAnswer, Lent), Problem> {
-    let fill = [0x00, 0xA5][round];
-    let start = GUARD + (bytes.len() + 5 * round) % 8;
-    let end = start + bytes.len();
-    let mut lent = vec![fill; end + GUARD];
-    lent[start..end].copy_from_slice(bytes);
-    let before = lent.clone();
-    let mut memories = Lent::new(memories, 1 + round as u64);
-    let part = memories.part();
+fn call(bytes: &[u8], memories: usize, round: usize) -> Result<(RateAnswer, Lent<u64>), Problem> {
+    let mut job = Lent::bytes(bytes, round);
+    let mut memories = Lent::output(memories, 1 + round as u64);
 
-    let got = rate_question((&mut lent, start..end), (memories.buffer(), part));
+    let got = rate_question(job.part(), memories.part());
 
     equal("guard words kept", 1, u64::from(memories.guards_kept()))?;
-    equal("the job's bytes kept", 1, u64::from(lent == before))?;
+    equal("the job's bytes kept", 1, u64::from(job.untouched()))?;
     if got.number != 0 {
         let untouched = u64::from(memories.untouched());
         equal("lent words kept on a refusal", 1, untouched)?;

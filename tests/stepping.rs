@@ -6,7 +6,7 @@ use std::hash::{DefaultHasher, Hash, Hasher};
 use crate::compare::Mismatch;
 use crate::job::Job;
 use crate::lending::Lent;
-use crate::library::{step, Part, Running, StepAnswer};
+use crate::library::{step, Running, StepNumbers};
 use crate::reader;
 
 /// The numbers of a step that are not of the job's bytes.
@@ -15,10 +15,6 @@ pub const WRONG_LENGTH: u64 = 11;
 pub const BROKEN: u64 = 14;
 pub const DONE: u64 = 100;
 const NUMBERS: usize = 101;
-
-/// Guard bytes on each side of a job's bytes, and guard words on each side of a
-/// plan.
-const GUARD: usize = 32;
 
 /// A job, or bytes that are none, with a running tree, a plan and the lengths of
 /// the lent rows.
@@ -72,6 +68,14 @@ pub const BREACHES: [Breach; 6] = [
     Breach::ChildAhead,
     Breach::ParentAhead,
 ];
+
+/// What the library's step gives, and the tree after it.
+#[derive(Clone, Copy, PartialEq, Eq)]
+pub struct StepAnswer {
+    pub number: u64,
+    pub link: u64,
+    pub tree: Running,
+}
 
 /// What a step must come to.
 pub enum Due {
@@ -309,8 +313,8 @@ fn judge(
     case: &Case,
     due: &Due,
     got: &StepAnswer,
-    sent: &Lent,
-    held: &Lent,
+    sent: &Lent<u64>,
+    held: &Lent<u64>,
 ) -> Result<(), Problem> {
     equal("number", due.number(), got.number)?;
     let tree = match due {
@@ -347,63 +351,29 @@ fn judge(
 
 /// Steps the library. Guards, the job's bytes and the plan must be as they were.
 /// The guards, the rows and the alignment differ from round to round.
-fn call(case: &Case, round: usize) -> Result<(StepAnswer, Lent, Lent), Problem> {
-    let job_start = GUARD + (case.bytes.len() + 5 * round) % 8;
-    let mut job = Guarded::new(&case.bytes, job_start, [0x00, 0xA5][round]);
-    let mut plan = Guarded::new(&case.plan, GUARD, [u64::MAX, 1][round]);
-    let mut sent = Lent::new(case.sent, 1 + 2 * round as u64);
-    let mut held = Lent::new(case.held, 2 + 2 * round as u64);
-    let parts = (sent.part(), held.part());
+fn call(case: &Case, round: usize) -> Result<(StepAnswer, Lent<u64>, Lent<u64>), Problem> {
+    let mut tree = Lent::words(&case.tree.words(), round);
+    let mut job = Lent::bytes(&case.bytes, round);
+    let mut plan = Lent::words(&case.plan, round);
+    let mut sent = Lent::output(case.sent, 1 + 2 * round as u64);
+    let mut held = Lent::output(case.held, 2 + 2 * round as u64);
 
-    let got = step(
-        case.tree,
+    let StepNumbers { number, link } = step(
+        tree.part(),
         job.part(),
         plan.part(),
-        (sent.buffer(), parts.0),
-        (held.buffer(), parts.1),
+        sent.part(),
+        held.part(),
     );
 
     let guards = sent.guards_kept() && held.guards_kept();
     equal("guard words of the rows kept", 1, u64::from(guards))?;
-    equal("the job's bytes and guards kept", 1, u64::from(job.kept()))?;
-    equal(
-        "the plan's words and guards kept",
-        1,
-        u64::from(plan.kept()),
-    )?;
-    Ok((got, sent, held))
-}
-
-/// Items that are lent to be read, between guards.
-struct Guarded<'a, T> {
-    items: &'a [T],
-    start: usize,
-    fill: T,
-    buffer: Vec<T>,
-}
-
-impl<'a, T: Copy + PartialEq> Guarded<'a, T> {
-    fn new(items: &'a [T], start: usize, fill: T) -> Self {
-        let mut buffer = vec![fill; start];
-        buffer.extend(items);
-        buffer.resize(start + items.len() + GUARD, fill);
-        Guarded {
-            items,
-            start,
-            fill,
-            buffer,
-        }
-    }
-
-    fn part(&mut self) -> Part<'_, T> {
-        let part = self.start..self.start + self.items.len();
-        (&mut self.buffer, part)
-    }
-
-    fn kept(&self) -> bool {
-        let (before, rest) = self.buffer.split_at(self.start);
-        let (items, after) = rest.split_at(self.items.len());
-        let mut guards = before.iter().chain(after);
-        items == self.items && guards.all(|&item| item == self.fill)
-    }
+    let guards = u64::from(tree.guards_kept());
+    equal("guard words of the tree kept", 1, guards)?;
+    let kept = u64::from(job.untouched());
+    equal("the job's bytes and guards kept", 1, kept)?;
+    let kept = u64::from(plan.untouched());
+    equal("the plan's words and guards kept", 1, kept)?;
+    let tree = Running::of(tree.held());
+    Ok((StepAnswer { number, link, tree }, sent, held))
 }

@@ -160,7 +160,8 @@ impl Tally {
     }
 }
 
-fn hash(bytes: &[u8]) -> u64 {
+/// What stands for a string met.
+pub fn hash(bytes: &[u8]) -> u64 {
     let mut hasher = DefaultHasher::new();
     bytes.hash(&mut hasher);
     hasher.finish()

@@ -1,9 +1,7 @@
 //! Holds the static library against independent implementations.
 //!
-//! Arguments, all optional: the number of random strings, the seed, and the numbers
-//! of random jobs for the memory question, random steps of a running tree, random
-//! jobs for the rate question, random answers put back and random jobs for the
-//! program, decimal or hexadecimal after `0x`. With 0 the program is left out.
+//! Arguments, both optional: how many random cases, of all sorts together, and the
+//! seed; decimal or hexadecimal after `0x`.
 
 #![deny(unsafe_code)]
 
@@ -30,6 +28,7 @@ mod relax;
 mod rng;
 mod rules;
 mod running;
+mod section;
 mod shapes;
 mod sizes_brute;
 mod sizing;
@@ -39,80 +38,68 @@ mod writer;
 
 use std::process::ExitCode;
 
-use asking::Asked;
-use compare::Tally;
-use program::Printed;
-use putting::Puts;
-use sizing::Rated;
-use stepping::Steps;
+use section::{split, Outcome};
 
-const RANDOM_STRINGS: u64 = 127_000;
-const RANDOM_JOBS: u64 = 90_000;
-const RANDOM_STEPS: u64 = 60_000;
-const RANDOM_RATES: u64 = 70_000;
-const RANDOM_PUTS: u64 = 20_000;
-const RANDOM_PROGRAMS: u64 = 2_400;
+/// A section: its random cases in the gate, and how it is run with so many and a seed.
+type Section = (u64, fn(u64, u64) -> Outcome);
+
+const SECTIONS: [Section; 6] = [
+    (reading::GATE, reading::run),
+    (planning::GATE, planning::run),
+    (running::GATE, running::run),
+    (rating::GATE, rating::run),
+    (putting::GATE, putting::run),
+    (program::GATE, program::run),
+];
+
 const SEED: u64 = 0x5245_4C41_5900_0001;
 
 fn number(text: &str) -> Option<u64> {
-    match text.strip_prefix("0x") {
-        Some(digits) => u64::from_str_radix(digits, 16).ok(),
-        None => text.parse().ok(),
+    let (digits, radix) = match text.strip_prefix("0x") {
+        Some(digits) => (digits, 16),
+        None => (text, 10),
+    };
+    let sign = digits.starts_with('+');
+    u64::from_str_radix(digits, radix).ok().filter(|_| !sign)
+}
+
+/// The number of random cases and the seed; without arguments those of the gate.
+fn arguments() -> Option<(u64, u64)> {
+    let gate = SECTIONS.iter().map(|(gate, _)| gate).sum();
+    let texts: Vec<String> = std::env::args().skip(1).collect();
+    match &texts[..] {
+        [] => Some((gate, SEED)),
+        [jobs] => Some((number(jobs)?, SEED)),
+        [jobs, seed] => Some((number(jobs)?, number(seed)?)),
+        _ => None,
     }
 }
 
-/// What is asked for, in the order of the arguments.
-fn arguments() -> Option<[u64; 7]> {
-    let mut all = [
-        RANDOM_STRINGS,
-        SEED,
-        RANDOM_JOBS,
-        RANDOM_STEPS,
-        RANDOM_RATES,
-        RANDOM_PUTS,
-        RANDOM_PROGRAMS,
-    ];
-    for (i, text) in std::env::args().skip(1).enumerate() {
-        *all.get_mut(i)? = number(&text)?;
-    }
-    Some(all)
+/// The random cases of each section, in the shares of the gate. What the program's
+/// share has over its bound goes to the reader.
+fn amounts(jobs: u64) -> Vec<u64> {
+    let mut amounts = split(jobs, &SECTIONS.map(|(gate, _)| gate));
+    let program = SECTIONS.len() - 1;
+    let over = amounts[program].saturating_sub(program::MOST);
+    amounts[program] -= over;
+    amounts[0] += over;
+    amounts
 }
 
 fn main() -> ExitCode {
-    let Some([strings, seed, jobs, random_steps, rates, random_puts, programs]) = arguments()
-    else {
-        eprintln!(
-            "usage: harness [random strings [seed [random jobs [random steps \
-             [random rate jobs [random answers put back [random program jobs]]]]]]]"
-        );
+    let Some((jobs, seed)) = arguments() else {
+        eprintln!("usage: tests/run [JOBS [SEED]] or tests/valgrind [JOBS [SEED]]");
+        eprintln!("JOBS is the number of random cases of all sorts; 0x may go before digits");
         return ExitCode::from(2);
     };
-    let mut tally = Tally::new();
-    let mut asked = Asked::new();
-    let mut steps = Steps::new();
-    let mut rated = Rated::new();
-    let mut puts = Puts::new();
-    let mut printed = Printed::new();
-    let all_well = [
-        reading::run(strings, seed, &mut tally),
-        planning::run(jobs, seed, &mut asked),
-        running::run(random_steps, seed, &mut steps),
-        rating::run(rates, seed, &mut rated),
-        putting::run(random_puts, seed, &mut puts),
-        program::run(programs, seed, &mut printed),
-    ];
-    let failed = all_well.iter().filter(|&&well| !well).count();
-    let passed = [
-        tally.strings,
-        asked.jobs,
-        steps.counts.steps,
-        rated.jobs,
-        puts.jobs,
-        printed.jobs,
-    ];
-    println!(
-        "harness: {} passed, {failed} failed",
-        passed.iter().sum::<u64>()
-    );
+    let end = ["between guards", "to the end of its allocation"][usize::from(lending::tight())];
+    println!("random cases asked for {jobs}, seed {seed:#018x}; lent memory: {end}");
+    let (mut passed, mut failed) = (0, 0);
+    for ((_, run), random) in SECTIONS.into_iter().zip(amounts(jobs)) {
+        let outcome = run(random, seed);
+        passed += outcome.passed;
+        failed += u64::from(!outcome.well);
+    }
+    println!("harness: {passed} passed, {failed} failed");
     ExitCode::from(u8::from(failed > 0))
 }

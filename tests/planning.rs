@@ -5,7 +5,11 @@ use crate::asking::{Asked, Case};
 use crate::compare::{count_cases, Mismatch};
 use crate::edges::memory_examples;
 use crate::rng::Rng;
+use crate::section::{split, Least, Outcome};
 use crate::trees;
+
+/// Random jobs in the gate.
+pub const GATE: u64 = 90_000;
 
 /// Least count of jobs in a run, of jobs for each number, and of accepted jobs in
 /// which P3 binds among every 100 random ones.
@@ -38,8 +42,17 @@ const RANDOM: [Random; 4] = [
     ("wrong lengths", 20, trees::wrong_length),
 ];
 
-/// Compares all cases, `random` of them random, and says whether all is well.
-pub fn run(random: u64, seed: u64, asked: &mut Asked) -> bool {
+/// Compares all cases, `random` of them random.
+pub fn run(random: u64, seed: u64) -> Outcome {
+    let mut asked = Asked::new();
+    let well = all_well(random, seed, &mut asked);
+    Outcome {
+        passed: asked.jobs,
+        well,
+    }
+}
+
+fn all_well(random: u64, seed: u64, asked: &mut Asked) -> bool {
     println!("memory question: seed {seed:#018x}, random jobs asked for {random}");
     println!(
         "{:<22}{:>20}{:>10}{:>10}{:>10}",
@@ -48,7 +61,9 @@ pub fn run(random: u64, seed: u64, asked: &mut Asked) -> bool {
     match compare_all(random, seed, asked) {
         Ok((jobs, binding)) => {
             report(jobs, binding, asked);
-            met_enough(jobs, binding, asked)
+            let mut least = Least::new(random, GATE);
+            demand(&mut least, jobs, binding, asked);
+            least.met()
         }
         Err(mismatch) => {
             println!("{mismatch}");
@@ -66,8 +81,9 @@ fn compare_all(random: u64, seed: u64, asked: &mut Asked) -> Result<(u64, u64), 
         compare_kind(name, seed, cases.into_iter(), asked)?;
     }
     let before = (asked.jobs, asked.binding);
-    for ((name, share, make), seed) in RANDOM.into_iter().zip(&mut seeds) {
-        let count = random * share / 1_000;
+    let counts = split(random, &RANDOM.map(|(_, share, _)| share));
+    let kinds = RANDOM.into_iter().zip(counts);
+    for (((name, _, make), count), seed) in kinds.zip(&mut seeds) {
         let mut rng = Rng::new(seed);
         compare_kind(name, seed, (0..count).map(|i| make(i, &mut rng)), asked)?;
     }
@@ -111,22 +127,12 @@ fn report(jobs: u64, binding: u64, asked: &Asked) {
     println!("largest plan: {} numbers", asked.largest);
 }
 
-/// Whether jobs enough were met, of each number too; says what is missing.
-fn met_enough(jobs: u64, binding: u64, asked: &Asked) -> bool {
-    let mut enough = true;
-    if asked.jobs < LEAST_JOBS {
-        println!("only {} jobs, at least {LEAST_JOBS} wanted", asked.jobs);
-        enough = false;
-    }
+/// Demands jobs enough, of each number too, and random ones enough in which P3 binds.
+fn demand(least: &mut Least, jobs: u64, binding: u64, asked: &Asked) {
+    least.of("jobs of the memory question", asked.jobs, LEAST_JOBS);
     for (number, &count) in asked.numbers.iter().enumerate() {
-        if count < LEAST_PER_NUMBER {
-            println!("number {number} met {count} times, at least {LEAST_PER_NUMBER} wanted");
-            enough = false;
-        }
+        least.of(&format!("number {number}"), count, LEAST_PER_NUMBER);
     }
-    if 100 * binding < LEAST_BINDING * jobs {
-        println!("P3 binds in {binding} of {jobs}, at least {LEAST_BINDING}% wanted");
-        enough = false;
-    }
-    enough
+    let wanted = (LEAST_BINDING * jobs).div_ceil(100);
+    least.of("random jobs in which P3 binds", binding, wanted);
 }

@@ -3,27 +3,41 @@
 
 use std::collections::HashSet;
 use std::fmt::Write as _;
-use std::io::Write as _;
+use std::io::{self, Read as _, Write as _};
 use std::path::Path;
-use std::process::{Command, Stdio};
-use std::thread::sleep;
+use std::process::{Child, ChildStdin, Command, ExitStatus, Stdio};
+use std::sync::mpsc::{channel, RecvTimeoutError};
+use std::sync::Mutex;
+use std::thread::{self, sleep};
 use std::time::Duration;
 
 use crate::asking::lengths;
+use crate::compare::hash;
 use crate::edges::{example_jobs, TREE_Q};
 use crate::faults::with_faults;
 use crate::job::{Job, FRAME_BYTES, GREATEST_DELAY, HEADER_BYTES, MOST_FRAMES, MOST_NODES};
 use crate::relax::Planner;
 use crate::rng::Rng;
+use crate::section::{split, Least, Outcome};
 use crate::shapes::{any_valid, valid, Shape, SHAPES};
 use crate::{lazy, rated, reader, trees, writer};
 
 /// The program, where the variable `RELAY_PROGRAM` names no other.
 const PATH: &str = "target/bin/relay";
 
+/// How long the program may take for one job, and how many bytes of what it prints
+/// are read: more than any answer has.
+const LIMIT: Duration = Duration::from_secs(60);
+const MOST_TEXT: u64 = 1_000_000;
+
 /// The most bytes of a job and numbers of a plan that the program takes.
 const MOST_BYTES: usize = 32_768;
 const MOST_NUMBERS: usize = 4_096;
+
+/// Random jobs in the gate, and the most of a longer run, as the program is started
+/// for each of them.
+pub const GATE: u64 = 2_400;
+pub const MOST: u64 = 20_000;
 
 /// Least counts of jobs in a run, of damaged ones, of jobs for each number on the
 /// first line, and of jobs for each number on the last line, which only jobs with
@@ -59,17 +73,17 @@ const LISTING: &str = "0 4 15
 ";
 
 /// What has been printed so far.
-pub struct Printed {
-    pub jobs: u64,
+struct Printed {
+    jobs: u64,
     damaged: u64,
     /// Jobs met for each number on the first line, and on the last.
     first: [u64; 16],
     last: [u64; 16],
-    seen: HashSet<Vec<u8>>,
+    seen: HashSet<u64>,
 }
 
 impl Printed {
-    pub fn new() -> Self {
+    fn new() -> Self {
         Printed {
             jobs: 0,
             damaged: 0,
@@ -82,7 +96,7 @@ impl Printed {
     /// Runs the program on one job; what differs, if anything. A job met before is
     /// left out.
     fn compare(&mut self, path: &str, bytes: Vec<u8>) -> Result<(), String> {
-        if self.seen.contains(&bytes) {
+        if !self.seen.insert(hash(&bytes)) {
             return Ok(());
         }
         let due = text(&bytes);
@@ -96,7 +110,6 @@ impl Printed {
         if let Some(last) = due.last {
             self.last[last] += 1;
         }
-        self.seen.insert(bytes);
         Ok(())
     }
 }
@@ -211,6 +224,18 @@ impl Feed {
             Feed::Pieces => bytes.chunks(bytes.len() / 20 + 1).collect(),
         }
     }
+
+    fn write(self, bytes: &[u8], mut input: ChildStdin) {
+        for (i, part) in self.parts(bytes).into_iter().enumerate() {
+            if i == 1 {
+                sleep(Duration::from_millis(4));
+            }
+            // A program that has read more than it takes may end before the rest.
+            if input.write_all(part).is_err() {
+                break;
+            }
+        }
+    }
 }
 
 /// What the program prints.
@@ -221,24 +246,51 @@ fn printed(path: &str, bytes: &[u8], feed: Feed) -> Result<String, String> {
         .stdout(Stdio::piped())
         .spawn()
         .map_err(|error| failed("not started", error.to_string()))?;
-    let mut input = child.stdin.take().expect("piped");
-    for (i, part) in feed.parts(bytes).into_iter().enumerate() {
-        if i == 1 {
-            sleep(Duration::from_millis(4));
-        }
-        // A program that has read more than it takes may end before the rest.
-        if input.write_all(part).is_err() {
-            break;
-        }
+    let input = child.stdin.take().expect("piped");
+    let output = child.stdout.take().expect("piped");
+    let child = Mutex::new(child);
+    let ((text, status), late) = watched(&child, || {
+        feed.write(bytes, input);
+        let mut text = String::new();
+        let read = output.take(MOST_TEXT).read_to_string(&mut text);
+        (read.map(|_| text), ended(&child))
+    });
+    if late {
+        return Err(failed("not ended", format!("killed after {LIMIT:?}")));
     }
-    drop(input);
-    let output = child
-        .wait_with_output()
-        .map_err(|error| failed("not ended", error.to_string()))?;
-    if output.status.code().is_none() {
-        return Err(failed("stopped", output.status.to_string()));
+    let status = status.map_err(|error| failed("not ended", error.to_string()))?;
+    if !status.success() {
+        return Err(failed("ended", status.to_string()));
     }
-    String::from_utf8(output.stdout).map_err(|error| failed("no text", error.to_string()))
+    text.map_err(|error| failed("no text", error.to_string()))
+}
+
+/// What `work` gives, and whether it took longer than the limit; the child is then
+/// killed.
+fn watched<T>(child: &Mutex<Child>, work: impl FnOnce() -> T) -> (T, bool) {
+    let (done, waiting) = channel::<()>();
+    thread::scope(|scope| {
+        let watchdog = scope.spawn(move || {
+            let late = waiting.recv_timeout(LIMIT) == Err(RecvTimeoutError::Timeout);
+            if late {
+                let _ = child.lock().expect("no panic").kill();
+            }
+            late
+        });
+        let result = work();
+        drop(done);
+        (result, watchdog.join().expect("no panic"))
+    })
+}
+
+/// Waits for the child's end, and leaves it to the watchdog between two looks.
+fn ended(child: &Mutex<Child>) -> io::Result<ExitStatus> {
+    loop {
+        if let Some(status) = child.lock().expect("no panic").try_wait()? {
+            return Ok(status);
+        }
+        sleep(Duration::from_micros(100));
+    }
 }
 
 /// A sort of case whose number of jobs is fixed.
@@ -264,9 +316,18 @@ const RANDOM: [Random; 6] = [
     ("cut or lengthened", 50, cut),
 ];
 
-/// Compares all cases, `random` of them random, and says whether all is well. With
-/// none asked for, all are left out.
-pub fn run(random: u64, seed: u64, printed: &mut Printed) -> bool {
+/// Compares all cases, `random` of them random. With none asked for, all are left
+/// out.
+pub fn run(random: u64, seed: u64) -> Outcome {
+    let mut printed = Printed::new();
+    let well = all_well(random, seed, &mut printed);
+    Outcome {
+        passed: printed.jobs,
+        well,
+    }
+}
+
+fn all_well(random: u64, seed: u64, printed: &mut Printed) -> bool {
     if random == 0 {
         println!("program: LEFT OUT, as no jobs were asked for");
         return true;
@@ -283,7 +344,7 @@ pub fn run(random: u64, seed: u64, printed: &mut Printed) -> bool {
         return false;
     }
     report(printed);
-    met_enough(printed)
+    met_enough(random, printed)
 }
 
 fn compare_all(path: &str, random: u64, seed: u64, printed: &mut Printed) -> Result<(), String> {
@@ -293,8 +354,9 @@ fn compare_all(path: &str, random: u64, seed: u64, printed: &mut Printed) -> Res
         let cases = make(&mut Rng::new(seed));
         compare_kind(path, name, seed, cases.into_iter(), printed)?;
     }
-    for ((name, share, make), seed) in RANDOM.into_iter().zip(&mut seeds) {
-        let count = random * share / 1_000;
+    let counts = split(random, &RANDOM.map(|(_, share, _)| share));
+    let kinds = RANDOM.into_iter().zip(counts);
+    for (((name, _, make), count), seed) in kinds.zip(&mut seeds) {
         let mut rng = Rng::new(seed);
         let cases = (0..count).map(|i| make(i, &mut rng));
         compare_kind(path, name, seed, cases, printed)?;
@@ -333,25 +395,19 @@ fn report(printed: &Printed) {
     );
 }
 
-fn met_enough(printed: &Printed) -> bool {
-    let mut enough = true;
-    let mut least = |what: &str, count: u64, wanted: u64| {
-        if count < wanted {
-            println!("program: {what}: {count}, at least {wanted} wanted");
-            enough = false;
-        }
-    };
-    least("jobs", printed.jobs, LEAST_JOBS);
-    least("damaged jobs", printed.damaged, LEAST_DAMAGED);
+fn met_enough(random: u64, printed: &Printed) -> bool {
+    let mut least = Least::new(random, GATE);
+    least.of("jobs of the program", printed.jobs, LEAST_JOBS);
+    least.of("damaged jobs", printed.damaged, LEAST_DAMAGED);
     for (number, wanted) in LEAST_FIRST {
         let what = format!("number {number} on the first line");
-        least(&what, printed.first[number], wanted);
+        least.of(&what, printed.first[number], wanted);
     }
     for (number, wanted) in LEAST_LAST {
         let what = format!("number {number} on the last line");
-        least(&what, printed.last[number], wanted);
+        least.of(&what, printed.last[number], wanted);
     }
-    enough
+    least.met()
 }
 
 /// The document's examples, no bytes at all, and Tree Q cut to each length.

@@ -8,9 +8,13 @@ use crate::job::{Job, GREATEST_AMOUNT, GREATEST_DELAY, MOST_FRAMES, MOST_NODES};
 use crate::lending::Lent;
 use crate::library::put_back;
 use crate::rng::Rng;
+use crate::section::{split, Least, Outcome};
 use crate::shapes::{any_valid, valid, SHAPES};
 use crate::sizing::same_bytes;
 use crate::{reader, writer};
+
+/// Random jobs in the gate.
+pub const GATE: u64 = 20_000;
 
 /// Least count of jobs in a run, and of jobs for each number.
 const LEAST_JOBS: u64 = 20_000;
@@ -52,14 +56,14 @@ struct Case {
 }
 
 /// What has been put back so far.
-pub struct Puts {
-    pub jobs: u64,
+struct Puts {
+    jobs: u64,
     /// Jobs met for each number.
-    pub numbers: [u64; NUMBERS],
+    numbers: [u64; NUMBERS],
 }
 
 impl Puts {
-    pub fn new() -> Self {
+    fn new() -> Self {
         Puts {
             jobs: 0,
             numbers: [0; NUMBERS],
@@ -91,8 +95,17 @@ const RANDOM: [Random; 5] = [
     ("large memories", 100, large_memory),
 ];
 
-/// Compares all cases, `random` of them random, and says whether all is well.
-pub fn run(random: u64, seed: u64, puts: &mut Puts) -> bool {
+/// Compares all cases, `random` of them random.
+pub fn run(random: u64, seed: u64) -> Outcome {
+    let mut puts = Puts::new();
+    let well = all_well(random, seed, &mut puts);
+    Outcome {
+        passed: puts.jobs,
+        well,
+    }
+}
+
+fn all_well(random: u64, seed: u64, puts: &mut Puts) -> bool {
     println!("putting back: seed {seed:#018x}, random jobs asked for {random}");
     println!("{:<22}{:>20}{:>10}", "kind", "seed", "jobs");
     if let Err(mismatch) = compare_all(random, seed, puts) {
@@ -103,7 +116,7 @@ pub fn run(random: u64, seed: u64, puts: &mut Puts) -> bool {
     for (number, count) in puts.numbers.iter().enumerate() {
         println!("{number:>6}{count:>10}");
     }
-    met_enough(puts)
+    met_enough(random, puts)
 }
 
 fn compare_all(random: u64, seed: u64, puts: &mut Puts) -> Result<(), Mismatch> {
@@ -118,8 +131,9 @@ fn compare_all(random: u64, seed: u64, puts: &mut Puts) -> Result<(), Mismatch> 
         let cases = make(&mut Rng::new(seed));
         compare_kind(name, seed, cases.into_iter(), puts)?;
     }
-    for ((name, share, make), seed) in RANDOM.into_iter().zip(&mut seeds) {
-        let count = random * share / 1_000;
+    let counts = split(random, &RANDOM.map(|(_, share, _)| share));
+    let kinds = RANDOM.into_iter().zip(counts);
+    for (((name, _, make), count), seed) in kinds.zip(&mut seeds) {
         let mut rng = Rng::new(seed);
         compare_kind(name, seed, (0..count).map(|i| make(i, &mut rng)), puts)?;
     }
@@ -144,19 +158,13 @@ fn compare_kind(
     Ok(())
 }
 
-fn met_enough(puts: &Puts) -> bool {
-    let mut enough = true;
-    let mut least = |what: &str, count: u64, wanted: u64| {
-        if count < wanted {
-            println!("{what}: {count}, at least {wanted} wanted");
-            enough = false;
-        }
-    };
-    least("jobs put back", puts.jobs, LEAST_JOBS);
+fn met_enough(random: u64, puts: &Puts) -> bool {
+    let mut least = Least::new(random, GATE);
+    least.of("jobs put back", puts.jobs, LEAST_JOBS);
     for (number, &count) in puts.numbers.iter().enumerate() {
-        least(&format!("number {number}"), count, LEAST_PER_NUMBER);
+        least.of(&format!("number {number}"), count, LEAST_PER_NUMBER);
     }
-    enough
+    least.met()
 }
 
 /// The number that is due: the bytes' own refusal, then the length of the memories,

@@ -4,7 +4,11 @@
 use crate::compare::{count_cases, Mismatch};
 use crate::rated;
 use crate::rng::Rng;
+use crate::section::{split, Least, Outcome};
 use crate::sizing::{Case, Rated};
+
+/// Random jobs in the gate.
+pub const GATE: u64 = 70_000;
 
 /// Least count of jobs in a run, of jobs for each number, of jobs searched by brute
 /// force, of answers with the longest delay, and of answers in which an inner node
@@ -41,8 +45,17 @@ const RANDOM: [Random; 5] = [
     ("wrong lengths", 30, rated::wrong_length),
 ];
 
-/// Compares all cases, `random` of them random, and says whether all is well.
-pub fn run(random: u64, seed: u64, rated: &mut Rated) -> bool {
+/// Compares all cases, `random` of them random.
+pub fn run(random: u64, seed: u64) -> Outcome {
+    let mut rated = Rated::new();
+    let well = all_well(random, seed, &mut rated);
+    Outcome {
+        passed: rated.jobs,
+        well,
+    }
+}
+
+fn all_well(random: u64, seed: u64, rated: &mut Rated) -> bool {
     println!("rate question: seed {seed:#018x}, random jobs asked for {random}");
     println!(
         "{:<22}{:>20}{:>10}{:>10}",
@@ -53,7 +66,7 @@ pub fn run(random: u64, seed: u64, rated: &mut Rated) -> bool {
         return false;
     }
     report(rated);
-    met_enough(rated)
+    met_enough(random, rated)
 }
 
 fn compare_all(random: u64, seed: u64, rated: &mut Rated) -> Result<(), Mismatch> {
@@ -63,8 +76,9 @@ fn compare_all(random: u64, seed: u64, rated: &mut Rated) -> Result<(), Mismatch
         let cases = make(&mut Rng::new(seed));
         compare_kind(name, seed, cases.into_iter(), rated)?;
     }
-    for ((name, share, make), seed) in RANDOM.into_iter().zip(&mut seeds) {
-        let count = random * share / 1_000;
+    let counts = split(random, &RANDOM.map(|(_, share, _)| share));
+    let kinds = RANDOM.into_iter().zip(counts);
+    for (((name, _, make), count), seed) in kinds.zip(&mut seeds) {
         let mut rng = Rng::new(seed);
         compare_kind(name, seed, (0..count).map(|i| make(i, &mut rng)), rated)?;
     }
@@ -105,24 +119,18 @@ fn report(rated: &Rated) {
     );
 }
 
-/// Whether jobs enough were met, of each number too; says what is missing.
-fn met_enough(rated: &Rated) -> bool {
-    let mut enough = true;
-    let mut least = |what: &str, count: u64, wanted: u64| {
-        if count < wanted {
-            println!("{what}: {count}, at least {wanted} wanted");
-            enough = false;
-        }
-    };
-    least("jobs of the rate question", rated.jobs, LEAST_JOBS);
+/// Whether jobs enough were met, of each number too.
+fn met_enough(random: u64, rated: &Rated) -> bool {
+    let mut least = Least::new(random, GATE);
+    least.of("jobs of the rate question", rated.jobs, LEAST_JOBS);
     for (number, &count) in rated.numbers.iter().enumerate() {
         if number != NO_NUMBER {
-            least(&format!("number {number}"), count, LEAST_PER_NUMBER);
+            least.of(&format!("number {number}"), count, LEAST_PER_NUMBER);
         }
     }
-    least("searched by brute force", rated.searched, LEAST_SEARCHED);
-    least("answers with delay 4,096", rated.longest, LEAST_LONGEST);
+    least.of("searched by brute force", rated.searched, LEAST_SEARCHED);
+    least.of("answers with delay 4,096", rated.longest, LEAST_LONGEST);
     let inner = rated.numbers[0] * LEAST_INNER / 100;
-    least("answers with a memory at an inner node", rated.inner, inner);
-    enough
+    least.of("answers with a memory at an inner node", rated.inner, inner);
+    least.met()
 }

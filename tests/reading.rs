@@ -4,8 +4,12 @@ use crate::compare::{count_cases, Case, Mismatch, Tally};
 use crate::faults::with_faults;
 use crate::job::{Job, FRAME_BYTES, HEADER_BYTES, MOST_NODES, RECORD_BYTES};
 use crate::rng::Rng;
+use crate::section::{split, Least, Outcome};
 use crate::shapes::{any_valid, few_frames, large_valid, valid, Shape, SHAPES};
 use crate::{edges, garbage};
+
+/// Random strings in the gate.
+pub const GATE: u64 = 127_000;
 
 /// Least count of strings in a run, and of strings for each number.
 const LEAST_STRINGS: u64 = 100_000;
@@ -49,8 +53,17 @@ const RANDOM: [Random; 16] = [
     ("garbage in form", 20, garbage::in_form),
 ];
 
-/// Compares all cases, `random` of them random, and says whether all is well.
-pub fn run(random: u64, seed: u64, tally: &mut Tally) -> bool {
+/// Compares all cases, `random` of them random.
+pub fn run(random: u64, seed: u64) -> Outcome {
+    let mut tally = Tally::new();
+    let well = all_well(random, seed, &mut tally);
+    Outcome {
+        passed: tally.strings,
+        well,
+    }
+}
+
+fn all_well(random: u64, seed: u64, tally: &mut Tally) -> bool {
     println!("seed {seed:#018x}, random strings asked for {random}");
     println!(
         "{:<22}{:>20}{:>10}{:>10}",
@@ -61,7 +74,7 @@ pub fn run(random: u64, seed: u64, tally: &mut Tally) -> bool {
         return false;
     }
     report(tally);
-    met_enough(tally)
+    met_enough(random, tally)
 }
 
 fn compare_all(random: u64, seed: u64, tally: &mut Tally) -> Result<(), Mismatch> {
@@ -70,8 +83,9 @@ fn compare_all(random: u64, seed: u64, tally: &mut Tally) -> Result<(), Mismatch
         let cases = make(&mut Rng::new(seed));
         compare_kind(name, seed, cases.into_iter(), tally)?;
     }
-    for ((name, share, make), seed) in RANDOM.into_iter().zip(&mut seeds) {
-        let count = random * share / 1_000;
+    let counts = split(random, &RANDOM.map(|(_, share, _)| share));
+    let kinds = RANDOM.into_iter().zip(counts);
+    for (((name, _, make), count), seed) in kinds.zip(&mut seeds) {
         let mut rng = Rng::new(seed);
         compare_kind(name, seed, (0..count).map(|i| make(i, &mut rng)), tally)?;
     }
@@ -107,29 +121,17 @@ fn report(tally: &Tally) {
     );
 }
 
-/// Whether strings enough were met, of each number too; says what is missing.
-fn met_enough(tally: &Tally) -> bool {
-    let mut enough = true;
-    if tally.strings < LEAST_STRINGS {
-        println!(
-            "only {} strings, at least {LEAST_STRINGS} wanted",
-            tally.strings
-        );
-        enough = false;
-    }
+/// Whether strings enough were met, of each number and node count too.
+fn met_enough(random: u64, tally: &Tally) -> bool {
+    let mut least = Least::new(random, GATE);
+    least.of("strings", tally.strings, LEAST_STRINGS);
     for (number, &count) in tally.numbers.iter().enumerate() {
-        if count < LEAST_PER_NUMBER {
-            println!("number {number} met {count} times, at least {LEAST_PER_NUMBER} wanted");
-            enough = false;
-        }
+        least.of(&format!("number {number}"), count, LEAST_PER_NUMBER);
     }
     for (nodes, &count) in tally.node_counts.iter().enumerate().skip(2) {
-        if count == 0 {
-            println!("no accepted string of {nodes} nodes");
-            enough = false;
-        }
+        least.of(&format!("accepted strings of {nodes} nodes"), count, 1);
     }
-    enough
+    least.met()
 }
 
 /// A valid job of this shape; the node counts 2 to 64 take turns.

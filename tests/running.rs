@@ -8,11 +8,15 @@ use crate::job::{Job, Record, GREATEST_AMOUNT, GREATEST_DELAY, GREATEST_FRAME, M
 use crate::library::{memory_question, Running, PLACES};
 use crate::rng::Rng;
 use crate::rules::Rules;
+use crate::section::{split, Least, Outcome};
 use crate::shapes::{few_frames, SHAPES};
 use crate::stepping::{
     due, expect, Breach, Case, Counts, Due, Steps, BREACHES, BROKEN, DONE, TAKEN, WRONG_LENGTH,
 };
 use crate::trees;
+
+/// Random steps in the gate.
+pub const GATE: u64 = 60_000;
 
 /// Least counts of random steps: of all, of those with each of `FREQUENT`, of
 /// those with each refusal of a job's bytes, and of each way to break a rule
@@ -58,8 +62,17 @@ const RANDOM: [Random; 6] = [
     ("faults", 75, faulty),
 ];
 
-/// Compares all steps, `random` of them random, and says whether all is well.
-pub fn run(random: u64, seed: u64, steps: &mut Steps) -> bool {
+/// Compares all steps, `random` of them random.
+pub fn run(random: u64, seed: u64) -> Outcome {
+    let mut steps = Steps::new();
+    let well = all_well(random, seed, &mut steps);
+    Outcome {
+        passed: steps.counts.steps,
+        well,
+    }
+}
+
+fn all_well(random: u64, seed: u64, steps: &mut Steps) -> bool {
     println!("running tree: seed {seed:#018x}, random steps asked for {random}");
     println!(
         "{:<22}{:>20}{:>10}{:>10}",
@@ -69,7 +82,7 @@ pub fn run(random: u64, seed: u64, steps: &mut Steps) -> bool {
         Ok(fixed) => {
             let drawn = difference(&steps.counts, &fixed);
             report(&drawn, &steps.counts);
-            met_enough(&drawn)
+            met_enough(random, &drawn)
         }
         Err(mismatch) => {
             println!("{mismatch}");
@@ -86,9 +99,11 @@ fn compare_all(random: u64, seed: u64, steps: &mut Steps) -> Result<Counts, Mism
         kind(name, seed, steps, |rng, steps| make(rng, steps))?;
     }
     let fixed = steps.counts.clone();
-    for ((name, share, make), seed) in RANDOM.into_iter().zip(&mut seeds) {
+    let counts = split(random, &RANDOM.map(|(_, share, _)| share));
+    let kinds = RANDOM.into_iter().zip(counts);
+    for (((name, _, make), count), seed) in kinds.zip(&mut seeds) {
         kind(name, seed, steps, |rng, steps| {
-            for i in 0..random * share / 1_000 {
+            for i in 0..count {
                 steps.compare(&make(i, rng))?;
             }
             Ok(())
@@ -144,28 +159,22 @@ fn report(drawn: &Counts, all: &Counts) {
     println!("steps: {} random, {} in all", drawn.steps, all.steps);
 }
 
-/// Whether random steps enough were met, of each number too; says what is missing.
-fn met_enough(drawn: &Counts) -> bool {
-    let mut enough = true;
-    let mut least = |what: &str, count: u64, wanted: u64| {
-        if count < wanted {
-            println!("{what}: {count} random steps, at least {wanted} wanted");
-            enough = false;
-        }
-    };
-    least("all", drawn.steps, LEAST_STEPS);
+/// Whether random steps enough were met, of each number and each breach too.
+fn met_enough(random: u64, drawn: &Counts) -> bool {
+    let mut least = Least::new(random, GATE);
+    least.of("random steps", drawn.steps, LEAST_STEPS);
     for number in FREQUENT {
         let count = drawn.numbers[number as usize];
-        least(&format!("number {number}"), count, LEAST_FREQUENT);
+        least.of(&format!("number {number}"), count, LEAST_FREQUENT);
     }
     for number in 1..=10 {
         let count = drawn.numbers[number];
-        least(&format!("number {number}"), count, LEAST_OF_BYTES);
+        least.of(&format!("number {number}"), count, LEAST_OF_BYTES);
     }
     for (breach, &count) in BREACHES.iter().zip(&drawn.alone) {
-        least(&format!("{breach:?} alone"), count, LEAST_ALONE);
+        least.of(&format!("{breach:?} alone"), count, LEAST_ALONE);
     }
-    enough
+    least.met()
 }
 
 /// The library's plan of `job`, if there is one.

@@ -58,6 +58,14 @@ pub struct StepNumbers {
     pub link: u64,
 }
 
+/// Where the row of one link lies in a plan; 0 twice where it is empty.
+#[repr(C)]
+#[derive(Clone, Copy, PartialEq, Eq)]
+pub struct Row {
+    pub start: usize,
+    pub length: usize,
+}
+
 extern "C" {
     fn relay_refusal(job: *const u8, length: usize) -> u64;
 
@@ -69,6 +77,8 @@ extern "C" {
         peaks: *mut u64,
         peaks_length: usize,
     ) -> MemoryAnswer;
+
+    fn relay_row_of(job: *const u8, job_length: usize, plan_length: usize, link: usize) -> Row;
 
     fn relay_rate_question(
         job: *const u8,
@@ -129,6 +139,14 @@ pub fn memory_question(job: Part<u8>, plan: Part<u64>, peaks: Part<u64>) -> Memo
     // SAFETY: each part lies within its buffer, and the buffers do not overlap,
     // as each is lent mutably for the whole call.
     unsafe { relay_memory_question(job, job_length, plan, plan_length, peaks, peaks_length) }
+}
+
+/// The library's row of a link in a plan of so many numbers, none of which is lent.
+/// The job is lent mutably, so that a write can be seen.
+pub fn row_of(job: Part<u8>, plan_length: usize, link: usize) -> Row {
+    let (job, job_length) = lend(job);
+    // SAFETY: the part lies within its buffer.
+    unsafe { relay_row_of(job, job_length, plan_length, link) }
 }
 
 /// The library's answer to the rate question.

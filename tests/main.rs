@@ -26,6 +26,7 @@ mod reader;
 mod reading;
 mod relax;
 mod rng;
+mod rowing;
 mod rules;
 mod running;
 mod section;
@@ -43,12 +44,13 @@ use section::{split, Outcome};
 /// A section: its random cases in the gate, and how it is run with so many and a seed.
 type Section = (u64, fn(u64, u64) -> Outcome);
 
-const SECTIONS: [Section; 6] = [
+const SECTIONS: [Section; 7] = [
     (reading::GATE, reading::run),
     (planning::GATE, planning::run),
     (running::GATE, running::run),
     (rating::GATE, rating::run),
     (putting::GATE, putting::run),
+    (rowing::GATE, rowing::run),
     (program::GATE, program::run),
 ];
 

@@ -6,6 +6,7 @@
 #![deny(unsafe_code)]
 
 mod answer;
+mod arguments;
 mod asking;
 mod brute;
 mod compare;
@@ -39,7 +40,7 @@ mod writer;
 
 use std::process::ExitCode;
 
-use section::{split, Outcome};
+use section::Outcome;
 
 /// A section: its random cases in the gate, and how it is run with so many and a seed.
 type Section = (u64, fn(u64, u64) -> Outcome);
@@ -54,42 +55,12 @@ const SECTIONS: [Section; 7] = [
     (program::GATE, program::run),
 ];
 
-const SEED: u64 = 0x5245_4C41_5900_0001;
-
-fn number(text: &str) -> Option<u64> {
-    let (digits, radix) = match text.strip_prefix("0x") {
-        Some(digits) => (digits, 16),
-        None => (text, 10),
-    };
-    let sign = digits.starts_with('+');
-    u64::from_str_radix(digits, radix).ok().filter(|_| !sign)
-}
-
-/// The number of random cases and the seed; without arguments those of the gate.
-fn arguments() -> Option<(u64, u64)> {
-    let gate = SECTIONS.iter().map(|(gate, _)| gate).sum();
-    let texts: Vec<String> = std::env::args().skip(1).collect();
-    match &texts[..] {
-        [] => Some((gate, SEED)),
-        [jobs] => Some((number(jobs)?, SEED)),
-        [jobs, seed] => Some((number(jobs)?, number(seed)?)),
-        _ => None,
-    }
-}
-
-/// The random cases of each section, in the shares of the gate. What the program's
-/// share has over its bound goes to the reader.
-fn amounts(jobs: u64) -> Vec<u64> {
-    let mut amounts = split(jobs, &SECTIONS.map(|(gate, _)| gate));
-    let program = SECTIONS.len() - 1;
-    let over = amounts[program].saturating_sub(program::MOST);
-    amounts[program] -= over;
-    amounts[0] += over;
-    amounts
-}
-
 fn main() -> ExitCode {
-    let Some((jobs, seed)) = arguments() else {
+    let gate = SECTIONS.map(|(gate, _)| gate);
+    arguments::check(gate);
+    let texts: Vec<String> = std::env::args().skip(1).collect();
+    let words: Vec<&str> = texts.iter().map(String::as_str).collect();
+    let Some((jobs, seed)) = arguments::read(&words, gate.iter().sum()) else {
         eprintln!("usage: tests/run [JOBS [SEED]] or tests/valgrind [JOBS [SEED]]");
         eprintln!("JOBS is the number of random cases of all sorts; 0x may go before digits");
         return ExitCode::from(2);
@@ -97,7 +68,7 @@ fn main() -> ExitCode {
     let end = ["between guards", "to the end of its allocation"][usize::from(lending::tight())];
     println!("random cases asked for {jobs}, seed {seed:#018x}; lent memory: {end}");
     let (mut passed, mut failed) = (0, 0);
-    for ((_, run), random) in SECTIONS.into_iter().zip(amounts(jobs)) {
+    for ((_, run), random) in SECTIONS.into_iter().zip(arguments::amounts(jobs, gate)) {
         let outcome = run(random, seed);
         passed += outcome.passed;
         failed += u64::from(!outcome.well);

@@ -5,7 +5,7 @@ use crate::asking::{Asked, Case};
 use crate::compare::{count_cases, Mismatch};
 use crate::edges::memory_examples;
 use crate::rng::Rng;
-use crate::section::{split, Least, Outcome};
+use crate::section::{draw, Least, Outcome, Random};
 use crate::trees;
 
 /// Random jobs in the gate.
@@ -31,11 +31,7 @@ const FIXED: [Fixed; 5] = [
     ("65,536 frames", trees::most_frames),
 ];
 
-/// A sort of case with its share of every 1,000 random jobs. It is given the
-/// number of the case.
-type Random = (&'static str, u64, fn(u64, &mut Rng) -> Case);
-
-const RANDOM: [Random; 4] = [
+const RANDOM: [Random<Case>; 4] = [
     ("tiny", 200, trees::tiny),
     ("small", 630, trees::small),
     ("faults", 150, trees::faulty),
@@ -81,12 +77,9 @@ fn compare_all(random: u64, seed: u64, asked: &mut Asked) -> Result<(u64, u64), 
         compare_kind(name, seed, cases.into_iter(), asked)?;
     }
     let before = (asked.jobs, asked.binding);
-    let counts = split(random, &RANDOM.map(|(_, share, _)| share));
-    let kinds = RANDOM.into_iter().zip(counts);
-    for (((name, _, make), count), seed) in kinds.zip(&mut seeds) {
-        let mut rng = Rng::new(seed);
-        compare_kind(name, seed, (0..count).map(|i| make(i, &mut rng)), asked)?;
-    }
+    draw(random, RANDOM, &mut seeds, |name, seed, cases| {
+        compare_kind(name, seed, cases, asked)
+    })?;
     let met = (asked.jobs - before.0, asked.binding - before.1);
 
     let seed = seeds.next().expect("endless");

@@ -18,7 +18,7 @@ use crate::faults::with_faults;
 use crate::job::{Job, FRAME_BYTES, GREATEST_DELAY, HEADER_BYTES, MOST_FRAMES, MOST_NODES};
 use crate::relax::Planner;
 use crate::rng::Rng;
-use crate::section::{split, Least, Outcome};
+use crate::section::{draw, Least, Outcome, Random};
 use crate::shapes::{any_valid, valid, Shape, SHAPES};
 use crate::{lazy, rated, reader, trees, writer};
 
@@ -303,11 +303,7 @@ const FIXED: [Fixed; 4] = [
     ("large", large),
 ];
 
-/// A sort of case with its share of every 1,000 random jobs. It is given the
-/// number of the case.
-type Random = (&'static str, u64, fn(u64, &mut Rng) -> Vec<u8>);
-
-const RANDOM: [Random; 6] = [
+const RANDOM: [Random<Vec<u8>>; 6] = [
     ("memories", 250, |_, rng| planned(rng)),
     ("rates", 250, |_, rng| answered(rng)),
     ("any valid", 60, |_, rng| any_valid(rng).encode()),
@@ -354,13 +350,9 @@ fn compare_all(path: &str, random: u64, seed: u64, printed: &mut Printed) -> Res
         let cases = make(&mut Rng::new(seed));
         compare_kind(path, name, seed, cases.into_iter(), printed)?;
     }
-    let counts = split(random, &RANDOM.map(|(_, share, _)| share));
-    let kinds = RANDOM.into_iter().zip(counts);
-    for (((name, _, make), count), seed) in kinds.zip(&mut seeds) {
-        let mut rng = Rng::new(seed);
-        let cases = (0..count).map(|i| make(i, &mut rng));
-        compare_kind(path, name, seed, cases, printed)?;
-    }
+    draw(random, RANDOM, &mut seeds, |name, seed, cases| {
+        compare_kind(path, name, seed, cases, printed)
+    })?;
     Ok(())
 }
 

@@ -8,7 +8,7 @@ use crate::job::{Job, GREATEST_AMOUNT, GREATEST_DELAY, MOST_FRAMES, MOST_NODES};
 use crate::lending::Lent;
 use crate::library::put_back;
 use crate::rng::Rng;
-use crate::section::{split, Least, Outcome};
+use crate::section::{draw, Least, Outcome, Random};
 use crate::shapes::{any_valid, valid, SHAPES};
 use crate::sizing::same_bytes;
 use crate::{reader, writer};
@@ -83,11 +83,7 @@ impl Puts {
     }
 }
 
-/// A sort of case with its share of every 1,000 random jobs. It is given the
-/// number of the case.
-type Random = (&'static str, u64, fn(u64, &mut Rng) -> Case);
-
-const RANDOM: [Random; 5] = [
+const RANDOM: [Random<Case>; 5] = [
     ("any answer", 400, |_, rng| any_answer(any_valid(rng), rng)),
     ("faults", 300, faulty),
     ("wrong lengths", 100, wrong_length),
@@ -131,12 +127,9 @@ fn compare_all(random: u64, seed: u64, puts: &mut Puts) -> Result<(), Mismatch> 
         let cases = make(&mut Rng::new(seed));
         compare_kind(name, seed, cases.into_iter(), puts)?;
     }
-    let counts = split(random, &RANDOM.map(|(_, share, _)| share));
-    let kinds = RANDOM.into_iter().zip(counts);
-    for (((name, _, make), count), seed) in kinds.zip(&mut seeds) {
-        let mut rng = Rng::new(seed);
-        compare_kind(name, seed, (0..count).map(|i| make(i, &mut rng)), puts)?;
-    }
+    draw(random, RANDOM, &mut seeds, |name, seed, cases| {
+        compare_kind(name, seed, cases, puts)
+    })?;
     Ok(())
 }
 

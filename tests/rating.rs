@@ -4,7 +4,7 @@
 use crate::compare::{count_cases, Mismatch};
 use crate::rated;
 use crate::rng::Rng;
-use crate::section::{split, Least, Outcome};
+use crate::section::{draw, Least, Outcome, Random};
 use crate::sizing::{Case, Rated};
 
 /// Random jobs in the gate.
@@ -33,11 +33,7 @@ const FIXED: [Fixed; 5] = [
     ("65,536 frames", rated::most_frames),
 ];
 
-/// A sort of case with its share of every 1,000 random jobs. It is given the
-/// number of the case.
-type Random = (&'static str, u64, fn(u64, &mut Rng) -> Case);
-
-const RANDOM: [Random; 5] = [
+const RANDOM: [Random<Case>; 5] = [
     ("tiny", 60, rated::tiny),
     ("small", 640, rated::small),
     ("borderline", 80, rated::borderline),
@@ -76,12 +72,9 @@ fn compare_all(random: u64, seed: u64, rated: &mut Rated) -> Result<(), Mismatch
         let cases = make(&mut Rng::new(seed));
         compare_kind(name, seed, cases.into_iter(), rated)?;
     }
-    let counts = split(random, &RANDOM.map(|(_, share, _)| share));
-    let kinds = RANDOM.into_iter().zip(counts);
-    for (((name, _, make), count), seed) in kinds.zip(&mut seeds) {
-        let mut rng = Rng::new(seed);
-        compare_kind(name, seed, (0..count).map(|i| make(i, &mut rng)), rated)?;
-    }
+    draw(random, RANDOM, &mut seeds, |name, seed, cases| {
+        compare_kind(name, seed, cases, rated)
+    })?;
     Ok(())
 }
 

@@ -4,7 +4,7 @@ use crate::compare::{count_cases, Case, Mismatch, Tally};
 use crate::faults::with_faults;
 use crate::job::{Job, FRAME_BYTES, HEADER_BYTES, MOST_NODES, RECORD_BYTES};
 use crate::rng::Rng;
-use crate::section::{split, Least, Outcome};
+use crate::section::{draw, Least, Outcome, Random};
 use crate::shapes::{any_valid, few_frames, large_valid, valid, Shape, SHAPES};
 use crate::{edges, garbage};
 
@@ -28,11 +28,7 @@ const FIXED: [Fixed; 7] = [
     ("large", large),
 ];
 
-/// A sort of case with its share of every 1,000 random strings. It is given the
-/// number of the case.
-type Random = (&'static str, u64, fn(u64, &mut Rng) -> Case);
-
-const RANDOM: [Random; 16] = [
+const RANDOM: [Random<Case>; 16] = [
     ("valid chain", 50, |i, rng| shaped(Shape::Chain, i, rng)),
     ("valid star", 50, |i, rng| shaped(Shape::Star, i, rng)),
     ("valid broom", 40, |i, rng| shaped(Shape::Broom, i, rng)),
@@ -83,12 +79,9 @@ fn compare_all(random: u64, seed: u64, tally: &mut Tally) -> Result<(), Mismatch
         let cases = make(&mut Rng::new(seed));
         compare_kind(name, seed, cases.into_iter(), tally)?;
     }
-    let counts = split(random, &RANDOM.map(|(_, share, _)| share));
-    let kinds = RANDOM.into_iter().zip(counts);
-    for (((name, _, make), count), seed) in kinds.zip(&mut seeds) {
-        let mut rng = Rng::new(seed);
-        compare_kind(name, seed, (0..count).map(|i| make(i, &mut rng)), tally)?;
-    }
+    draw(random, RANDOM, &mut seeds, |name, seed, cases| {
+        compare_kind(name, seed, cases, tally)
+    })?;
     Ok(())
 }
 

@@ -14,7 +14,7 @@ use crate::lending::Lent;
 use crate::library::{row_of, Row};
 use crate::relax::Planner;
 use crate::rng::Rng;
-use crate::section::{split, Least, Outcome};
+use crate::section::{draw, Least, Outcome, Random};
 use crate::shapes::{any_valid, few_frames, valid, Shape, SHAPES};
 use crate::{reader, trees};
 
@@ -229,11 +229,7 @@ const FIXED: [Fixed; 5] = [
     }),
 ];
 
-/// A sort of case with its share of every 1,000 random ones. It is given the number
-/// of the case.
-type Random = (&'static str, u64, fn(u64, &mut Rng) -> Case);
-
-const RANDOM: [Random; 6] = [
+const RANDOM: [Random<Case>; 6] = [
     ("rows", 400, |i, rng| any(ROW, i, rng)),
     ("wrong lengths", 200, |i, rng| any(LENGTH, i, rng)),
     ("no such link", 130, |i, rng| any(LINK, i, rng)),
@@ -275,12 +271,9 @@ fn compare_all(random: u64, seed: u64, rows: &mut Rows) -> Result<(), Mismatch> 
         let cases = make(&mut Rng::new(seed));
         compare_kind(name, seed, cases.into_iter(), rows)?;
     }
-    let counts = split(random, &RANDOM.map(|(_, share, _)| share));
-    let kinds = RANDOM.into_iter().zip(counts);
-    for (((name, _, make), count), seed) in kinds.zip(&mut seeds) {
-        let mut rng = Rng::new(seed);
-        compare_kind(name, seed, (0..count).map(|i| make(i, &mut rng)), rows)?;
-    }
+    draw(random, RANDOM, &mut seeds, |name, seed, cases| {
+        compare_kind(name, seed, cases, rows)
+    })?;
     Ok(())
 }
 

@@ -8,7 +8,7 @@ use crate::job::{Job, Record, GREATEST_AMOUNT, GREATEST_DELAY, GREATEST_FRAME, M
 use crate::library::{memory_question, Running, PLACES};
 use crate::rng::Rng;
 use crate::rules::Rules;
-use crate::section::{split, Least, Outcome};
+use crate::section::{draw, Least, Outcome, Random};
 use crate::shapes::{few_frames, SHAPES};
 use crate::stepping::{
     due, expect, Breach, Case, Counts, Due, Steps, BREACHES, BROKEN, DONE, TAKEN, WRONG_LENGTH,
@@ -49,11 +49,7 @@ const FIXED: [Fixed; 6] = [
     ("largest", largest),
 ];
 
-/// A sort of step with its share of every 1,000 random ones. It is given the
-/// number of the case.
-type Random = (&'static str, u64, fn(u64, &mut Rng) -> Case);
-
-const RANDOM: [Random; 6] = [
+const RANDOM: [Random<Case>; 6] = [
     ("fitting", 250, |_, rng| fitting(rng)),
     ("changed", 450, |_, rng| changed(rng)),
     ("anything", 100, |_, rng| anything(rng)),
@@ -99,16 +95,14 @@ fn compare_all(random: u64, seed: u64, steps: &mut Steps) -> Result<Counts, Mism
         kind(name, seed, steps, |rng, steps| make(rng, steps))?;
     }
     let fixed = steps.counts.clone();
-    let counts = split(random, &RANDOM.map(|(_, share, _)| share));
-    let kinds = RANDOM.into_iter().zip(counts);
-    for (((name, _, make), count), seed) in kinds.zip(&mut seeds) {
-        kind(name, seed, steps, |rng, steps| {
-            for i in 0..count {
-                steps.compare(&make(i, rng))?;
+    draw(random, RANDOM, &mut seeds, |name, seed, cases| {
+        kind(name, seed, steps, |_, steps| {
+            for case in cases {
+                steps.compare(&case)?;
             }
             Ok(())
-        })?;
-    }
+        })
+    })?;
     Ok(fixed)
 }
 
@@ -117,7 +111,7 @@ fn kind(
     name: &str,
     seed: u64,
     steps: &mut Steps,
-    make: impl Fn(&mut Rng, &mut Steps) -> Found,
+    make: impl FnOnce(&mut Rng, &mut Steps) -> Found,
 ) -> Found {
     let before = (steps.counts.steps, steps.repeated);
     let found = make(&mut Rng::new(seed), steps);

@@ -1,6 +1,8 @@
 //! What the sections of the harness share: how many random cases each kind has, the
 //! least counts, and what a section comes to.
 
+use crate::rng::Rng;
+
 /// What a section comes to.
 pub struct Outcome {
     /// Cases that passed.
@@ -20,6 +22,28 @@ pub fn split(total: u64, shares: &[u64]) -> Vec<u64> {
         up_to(end) - up_to(start)
     };
     shares.iter().map(part).collect()
+}
+
+/// A sort of case with its share of every 1,000 random ones. It is given the number
+/// of the case.
+pub type Random<C> = (&'static str, u64, fn(u64, &mut Rng) -> C);
+
+/// Hands on the random cases of each kind with its name and seed, `random` in all.
+pub fn draw<C, E, const KINDS: usize>(
+    random: u64,
+    kinds: [Random<C>; KINDS],
+    seeds: &mut impl Iterator<Item = u64>,
+    mut compare: impl FnMut(&'static str, u64, &mut dyn Iterator<Item = C>) -> Result<(), E>,
+) -> Result<(), E> {
+    let counts = split(random, &kinds.map(|(_, share, _)| share));
+    let mut drawn = 0;
+    for (((name, _, make), count), seed) in kinds.into_iter().zip(counts).zip(seeds) {
+        let mut rng = Rng::new(seed);
+        let cases = (0..count).map(|i| make(i, &mut rng));
+        compare(name, seed, &mut cases.inspect(|_| drawn += 1))?;
+    }
+    assert_eq!(drawn, random, "random cases drawn and asked for");
+    Ok(())
 }
 
 /// The least counts of a section. They are demanded of a run as large as the gate's,

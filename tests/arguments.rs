@@ -35,8 +35,8 @@ pub fn amounts<const SECTIONS: usize>(jobs: u64, gate: [u64; SECTIONS]) -> Vec<u
     amounts
 }
 
-/// Holds the functions above against values by hand.
-pub fn check<const SECTIONS: usize>(gate: [u64; SECTIONS]) {
+/// Holds the arguments read against values by hand.
+fn check_read() {
     let good: [(&[&str], (u64, u64)); 6] = [
         (&[], (7, SEED)),
         (&["0"], (0, SEED)),
@@ -48,31 +48,28 @@ pub fn check<const SECTIONS: usize>(gate: [u64; SECTIONS]) {
     for (words, due) in good {
         assert_eq!(read(words, 7), Some(due), "arguments {words:?}");
     }
-    let none = [
-        "", "x", "-1", "+1", "1.5", "1e6", " 1", "0x", "0x+1", "0xg", "ff",
-    ];
-    for word in none.into_iter().chain(["18446744073709551616"]) {
+    let over = "18446744073709551616";
+    for word in [
+        "", "x", "-1", "+1", "1.5", "1e6", " 1", "0x", "0x+1", "ff", over,
+    ] {
         assert_eq!(read(&[word], 7), None, "argument {word:?}");
         assert_eq!(read(&["1", word], 7), None, "seed {word:?}");
     }
     assert_eq!(read(&["1", "2", "3"], 7), None, "three arguments");
+}
 
+/// Holds the functions above against values by hand: amounts add up to the jobs, and
+/// the program has its share within its bound.
+pub fn check<const SECTIONS: usize>(gate: [u64; SECTIONS]) {
+    check_read();
     let all: u64 = gate.iter().sum();
-    assert_eq!(
-        amounts(all, gate),
-        gate,
-        "without arguments those of the gate"
-    );
-    assert_eq!(split(10, &[1, 1, 1]), [3, 3, 4], "parts that differ by one");
+    assert_eq!(amounts(all, gate), gate, "the shares are the gate's");
     for jobs in [0, 1, 99, all - 1, 2 * all, 1_000_000, 10_000_000, 1 << 63] {
         let amounts = amounts(jobs, gate);
         assert_eq!(amounts.iter().sum::<u64>(), jobs, "{jobs} in all");
-        let share = (u128::from(jobs) * u128::from(gate[SECTIONS - 1])).div_ceil(u128::from(all));
+        let share = u128::from(jobs) * u128::from(gate[SECTIONS - 1]) / u128::from(all);
         let bounded = share.min(20_000) as u64;
-        let program = amounts[SECTIONS - 1];
-        assert!(
-            program.abs_diff(bounded) <= 1,
-            "the program's share of {jobs}"
-        );
+        let beside = amounts[SECTIONS - 1].abs_diff(bounded);
+        assert!(beside <= 1, "the program's share of {jobs}");
     }
 }

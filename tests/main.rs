@@ -57,6 +57,7 @@ const SECTIONS: [Section; 7] = [
 
 fn main() -> ExitCode {
     let gate = SECTIONS.map(|(gate, _)| gate);
+    section::check();
     arguments::check(gate);
     let texts: Vec<String> = std::env::args().skip(1).collect();
     let words: Vec<&str> = texts.iter().map(String::as_str).collect();

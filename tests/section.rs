@@ -49,32 +49,65 @@ pub fn draw<C, E, const KINDS: usize>(
 /// The least counts of a section. They are demanded of a run as large as the gate's,
 /// and a smaller one says that they are not.
 pub struct Least {
-    demanded: bool,
-    met: bool,
+    asked: u64,
+    gate: u64,
+    missed: Vec<String>,
 }
 
 impl Least {
     /// Of a section that is asked for so many random cases, by the gate for `gate`.
     pub fn new(asked: u64, gate: u64) -> Self {
-        let demanded = asked >= gate;
-        if !demanded {
-            println!("least counts not demanded: {asked} asked for, fewer than the gate's {gate}");
-        }
         Least {
-            demanded,
-            met: true,
+            asked,
+            gate,
+            missed: Vec::new(),
         }
     }
 
-    /// One count; says so where it is too small.
+    /// One count.
     pub fn of(&mut self, what: &str, count: u64, wanted: u64) {
-        if self.demanded && count < wanted {
-            println!("{what}: {count}, at least {wanted} wanted");
-            self.met = false;
+        if count < wanted {
+            let missed = format!("{what}: {count}, at least {wanted} wanted");
+            self.missed.push(missed);
         }
     }
 
+    fn demanded(&self) -> bool {
+        self.asked >= self.gate
+    }
+
+    fn enough(&self) -> bool {
+        !self.demanded() || self.missed.is_empty()
+    }
+
+    /// Whether all that is demanded was met; says what was not.
     pub fn met(self) -> bool {
-        self.met
+        if self.demanded() {
+            self.missed.iter().for_each(|missed| println!("{missed}"));
+        } else {
+            println!(
+                "least counts not demanded: {} asked for, fewer than the gate's {}; missed: {}",
+                self.asked,
+                self.gate,
+                self.missed.len()
+            );
+        }
+        self.enough()
+    }
+}
+
+/// Holds the functions above against values by hand.
+pub fn check() {
+    assert_eq!(split(10, &[1, 1, 1]), [3, 3, 4], "parts that differ by one");
+    assert_eq!(
+        split(7, &[0, 2, 5]),
+        [0, 2, 5],
+        "parts as large as the shares"
+    );
+    assert_eq!(split(u64::MAX, &[1]), [u64::MAX], "the most");
+    for (asked, count, enough) in [(9, 4, true), (10, 4, false), (11, 4, false), (10, 5, true)] {
+        let mut least = Least::new(asked, 10);
+        least.of("cases", count, 5);
+        assert_eq!(least.enough(), enough, "{asked} asked for, {count} met");
     }
 }

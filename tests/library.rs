@@ -66,7 +66,15 @@ pub struct Row {
     pub length: usize,
 }
 
+/// The numbers of `relay_limits` in turn, all of which have 64 bits.
+#[repr(C)]
+struct Limits([u64; LIMITS]);
+
+pub const LIMITS: usize = 9;
+
 extern "C" {
+    fn relay_library_limits() -> Limits;
+
     fn relay_refusal(job: *const u8, length: usize) -> u64;
 
     fn relay_memory_question(
@@ -119,6 +127,13 @@ fn lend<T>((buffer, part): Part<T>) -> (*mut T, usize) {
         buffer.as_mut_ptr().wrapping_add(part.start),
         part.end - part.start,
     )
+}
+
+/// The library's limits, in the order of the header.
+pub fn limits() -> [u64; LIMITS] {
+    // SAFETY: nothing is lent.
+    let Limits(limits) = unsafe { relay_library_limits() };
+    limits
 }
 
 /// The library's refusal of a job's bytes.

@@ -3,6 +3,7 @@
 use crate::compare::{count_cases, Case, Mismatch, Tally};
 use crate::faults::with_faults;
 use crate::job::{Job, FRAME_BYTES, HEADER_BYTES, MOST_NODES, RECORD_BYTES};
+use crate::library::{limits, LIMITS};
 use crate::rng::Rng;
 use crate::section::{draw, Least, Outcome, Random};
 use crate::shapes::{any_valid, few_frames, large_valid, valid, Shape, SHAPES};
@@ -14,6 +15,20 @@ pub const GATE: u64 = 127_000;
 /// Least count of strings in a run, and of strings for each number.
 const LEAST_STRINGS: u64 = 100_000;
 const LEAST_PER_NUMBER: u64 = 1_000;
+
+/// The document's limits in the header's order: the nodes, the frames, the longest
+/// delay, the greatest memory, rate and frame, and the numbers of a running tree.
+const DUE_LIMITS: [u64; LIMITS] = [
+    2,
+    64,
+    1,
+    65_536,
+    4_096,
+    1_099_511_627_775,
+    1_099_511_627_775,
+    16_777_215,
+    65,
+];
 
 /// A sort of case whose number of strings is fixed.
 type Fixed = (&'static str, fn(&mut Rng) -> Vec<Case>);
@@ -60,6 +75,11 @@ pub fn run(random: u64, seed: u64) -> Outcome {
 }
 
 fn all_well(random: u64, seed: u64, tally: &mut Tally) -> bool {
+    println!("limits of the library: {:?}", limits());
+    if limits() != DUE_LIMITS {
+        println!("limits: {DUE_LIMITS:?} wanted");
+        return false;
+    }
     println!("seed {seed:#018x}, random strings asked for {random}");
     println!(
         "{:<22}{:>20}{:>10}{:>10}",

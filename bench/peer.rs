@@ -27,8 +27,8 @@ pub struct Peer {
 #[derive(Clone, Copy, Default)]
 pub struct Node {
     pub parent: usize,
-    delay: usize,
-    memory: i64,
+    pub delay: usize,
+    pub memory: i64,
     pub rate: u64,
     pub leaf: bool,
 }
@@ -79,12 +79,7 @@ impl Peer {
             Err(number) => return refused(number),
         };
         let nodes = &mut nodes[..n];
-        let last = frames
-            + nodes
-                .iter()
-                .map(|node| if node.leaf { node.delay } else { 0 })
-                .max()
-                .unwrap_or(0);
+        let last = last_slot(nodes, frames);
         let slots = last + 1;
         if plan.len() != (n - 1) * slots || peaks.len() != n - 1 {
             return refused(11);
@@ -97,14 +92,7 @@ impl Peer {
 
         // Sums of the film behind MOST_DELAY zeros, then the whole up to the last slot.
         self.sums[..=MOST_DELAY].fill(0);
-        let mut total = 0;
-        for (sum, frame) in self.sums[MOST_DELAY + 1..]
-            .iter_mut()
-            .zip(film.chunks_exact(4))
-        {
-            total += i64::from(u32::from_be_bytes([frame[0], frame[1], frame[2], frame[3]]));
-            *sum = total;
-        }
+        let total = add_up(film, &mut self.sums[MOST_DELAY + 1..]);
         self.sums[MOST_DELAY + frames + 1..MOST_DELAY + slots].fill(total);
 
         for a in (0..slots).step_by(STRETCH) {
@@ -207,6 +195,22 @@ impl Peer {
     }
 }
 
+/// The frames plus the greatest delay of a leaf.
+pub fn last_slot(nodes: &[Node], frames: usize) -> usize {
+    let delays = nodes.iter().filter(|node| node.leaf).map(|node| node.delay);
+    frames + delays.max().unwrap_or(0)
+}
+
+/// The sums of the film after each frame; the last is given back too.
+pub fn add_up(film: &[u8], sums: &mut [i64]) -> i64 {
+    let mut total = 0;
+    for (sum, &frame) in sums.iter_mut().zip(film.as_chunks::<4>().0) {
+        total += i64::from(u32::from_be_bytes(frame));
+        *sum = total;
+    }
+    total
+}
+
 /// Reads the job into `nodes`: the node count, the frame count and the bytes of the film.
 pub fn read<'a>(
     job: &'a [u8],
@@ -269,11 +273,10 @@ pub fn read<'a>(
     if too_large {
         return Err(9);
     }
-    let greatest = film
-        .chunks_exact(4)
-        .map(|f| u32::from_be_bytes([f[0], f[1], f[2], f[3]]))
-        .max();
-    if greatest.unwrap_or(0) > MOST_FRAME {
+    // MOST_FRAME is ones alone, so some frame is larger just where the bits of all are.
+    let sizes = film.as_chunks::<4>().0.iter();
+    let bits = sizes.fold(0, |all, &f| all | u32::from_ne_bytes(f));
+    if u32::from_be(bits) > MOST_FRAME {
         return Err(10);
     }
     Ok((n, frames, film))

@@ -50,9 +50,8 @@ impl Sizer {
             return refused(11);
         }
         let film = &mut self.film[..frames];
-        for (frame, bytes) in film.iter_mut().zip(bytes.chunks_exact(4)) {
-            let size = u32::from_be_bytes([bytes[0], bytes[1], bytes[2], bytes[3]]);
-            *frame = f64::from(size as i32);
+        for (frame, &size) in film.iter_mut().zip(bytes.as_chunks::<4>().0) {
+            *frame = f64::from(i32::from_be_bytes(size));
         }
 
         let least = nodes[1..].iter().map(|node| node.rate).min().unwrap_or(0);

@@ -1,9 +1,6 @@
 //! Jobs to plan: trees of several shapes, films with an MPEG-like pattern, and
 //! memories just large enough for a plan to exist.
 
-pub const GREATEST_DELAY: usize = 4096;
-const EQUAL_DELAY: usize = 1024;
-
 #[derive(Clone, Copy, PartialEq, Eq)]
 pub enum Shape {
     Star,
@@ -27,6 +24,20 @@ impl Shape {
         }
     }
 
+    /// The shape that has this name with spread delays.
+    pub fn named(name: &str) -> Option<Shape> {
+        let all = [
+            Shape::Star,
+            Shape::Chain,
+            Shape::Binary,
+            Shape::Random,
+            Shape::CaterpillarDown,
+            Shape::CaterpillarUp,
+        ];
+        all.into_iter()
+            .find(|shape| shape.name(Delays::Spread) == name)
+    }
+
     pub fn caterpillar(self) -> bool {
         matches!(self, Shape::CaterpillarDown | Shape::CaterpillarUp)
     }
@@ -43,6 +54,31 @@ impl Delays {
         match self {
             Delays::Spread => "spread",
             Delays::Equal => "equal",
+        }
+    }
+}
+
+/// How large the frames are.
+#[derive(Clone, Copy, PartialEq, Eq)]
+pub enum Film {
+    /// Groups of twelve, and scenes of differing weight.
+    Scenes,
+    /// Large and small in turn.
+    Alternating,
+}
+
+impl Film {
+    pub fn name(self) -> &'static str {
+        match self {
+            Film::Scenes => "scenes",
+            Film::Alternating => "alternating",
+        }
+    }
+
+    fn group(self) -> &'static [u8] {
+        match self {
+            Film::Scenes => b"IBBPBBPBBPBB",
+            Film::Alternating => b"IB",
         }
     }
 }
@@ -90,16 +126,16 @@ impl Random {
     }
 }
 
-/// Frame sizes in groups of twelve, with scenes of differing weight and noise on every frame.
-fn film(frames: usize, random: &mut Random) -> Vec<u64> {
-    const GROUP: &[u8; 12] = b"IBBPBBPBBPBB";
+/// Frame sizes in groups, with noise on every frame.
+fn frame_sizes(film: Film, frames: usize, random: &mut Random) -> Vec<u64> {
+    let group = film.group();
     let mut scene = 100;
     let mut sizes = Vec::with_capacity(frames);
     for m in 0..frames {
-        if m % 12 == 0 && random.between(1, 12) == 1 {
+        if film == Film::Scenes && m % group.len() == 0 && random.between(1, 12) == 1 {
             scene = random.between(40, 250);
         }
-        let base = match GROUP[m % 12] {
+        let base = match group[m % group.len()] {
             b'I' => 60_000,
             b'P' => 25_000,
             _ => 9_000,
@@ -130,14 +166,21 @@ fn tree(shape: Shape, n: usize, random: &mut Random) -> Vec<usize> {
         .collect()
 }
 
-/// The delay of each node: 0 at inner nodes, from 0 to the greatest delay at the leaves.
-fn leaf_delays(shape: Shape, delays: Delays, leaf: &[bool], random: &mut Random) -> Vec<usize> {
+/// The delay of each node: 0 at inner nodes; at the leaves from 0 to the greatest, or a
+/// quarter of that at all of them.
+fn leaf_delays(
+    shape: Shape,
+    delays: Delays,
+    greatest: usize,
+    leaf: &[bool],
+    random: &mut Random,
+) -> Vec<usize> {
     let count = leaf.iter().filter(|&&is| is).count();
     let mut values: Vec<usize> = (0..count)
         .map(|i| match delays {
-            Delays::Equal => EQUAL_DELAY,
-            Delays::Spread if count == 1 => GREATEST_DELAY,
-            Delays::Spread => i * GREATEST_DELAY / (count - 1),
+            Delays::Equal => greatest / 4,
+            Delays::Spread if count == 1 => greatest,
+            Delays::Spread => i * greatest / (count - 1),
         })
         .collect();
     match shape {
@@ -190,11 +233,32 @@ fn encode(records: impl ExactSizeIterator<Item = Record>, sizes: &[u64]) -> Vec<
     bytes
 }
 
-/// The bytes of a job for the rate question: no two links have one rate, and the least is
-/// a little above the mean frame, so that some delay serves.
-pub fn rated(shape: Shape, rates: Rates, n: usize, frames: usize) -> Vec<u8> {
+pub struct Rated {
+    pub bytes: Vec<u8>,
+    /// How many floor rates differ.
+    pub floors: usize,
+}
+
+/// How many of the floor rates differ, where each is the least of a link's own rate and those
+/// below it.
+fn different_floors(parent: &[usize], rate: &[u64]) -> usize {
+    let mut floor = rate.to_vec();
+    for v in (1..parent.len()).rev() {
+        let u = parent[v];
+        if u != 0 {
+            floor[u - 1] = floor[u - 1].min(floor[v - 1]);
+        }
+    }
+    floor.sort_unstable();
+    floor.dedup();
+    floor.len()
+}
+
+/// A job for the rate question: no two links have one rate, and the least is a little above
+/// the mean frame, so that some delay serves.
+pub fn rated(shape: Shape, rates: Rates, film: Film, n: usize, frames: usize) -> Rated {
     let mut random = Random(0x52_4c5a);
-    let sizes = film(frames, &mut random);
+    let sizes = frame_sizes(film, frames, &mut random);
     let mean = sizes.iter().sum::<u64>() / frames as u64;
     let parent = tree(shape, n, &mut random);
     // From 1.03 to about 3 times the mean.
@@ -212,31 +276,27 @@ pub fn rated(shape: Shape, rates: Rates, n: usize, frames: usize) -> Vec<u8> {
         memory: 0,
         rate: rate[v - 1],
     });
-    encode(records, &sizes)
+    Rated {
+        bytes: encode(records, &sizes),
+        floors: different_floors(&parent, &rate),
+    }
 }
 
-/// A job that has a plan. Leaves hold a few to many frames; an inner node holds half to all
-/// of what the delays below it ask for, and the leaves the rest, so that the boxes bind.
-pub fn make(shape: Shape, delays: Delays, n: usize, frames: usize) -> Job {
-    let mut random = Random(0x52_4c59);
-    let sizes = film(frames, &mut random);
-    let mut sums = vec![0];
-    for size in &sizes {
-        sums.push(sums[sums.len() - 1] + size);
-    }
-    let mean = sums[frames] / frames as u64;
-
-    let parent = tree(shape, n, &mut random);
-    let mut leaf = vec![true; n];
-    for v in 1..n {
-        leaf[parent[v]] = false;
-    }
-    let delay = leaf_delays(shape, delays, &leaf, &mut random);
-
+/// The memory of each node. A leaf holds a few to many frames; an inner node holds half to
+/// all of what the delays below it ask for, and the leaves the rest, so that the boxes bind.
+fn memories(
+    parent: &[usize],
+    leaf: &[bool],
+    delay: &[usize],
+    sums: &[u64],
+    random: &mut Random,
+) -> Vec<u64> {
+    let n = parent.len();
+    let mean = sums[sums.len() - 1] / (sums.len() - 1) as u64;
     let mut memory = vec![0; n];
     // The leaves below each node, each with the memory on the way to it from that node.
     let mut below: Vec<Vec<(usize, u64)>> = vec![Vec::new(); n];
-    let mut earliest = delay.clone();
+    let mut earliest = delay.to_vec();
     for v in (1..n).rev() {
         if leaf[v] {
             memory[v] = random.between(2 * mean, 60 * mean);
@@ -245,7 +305,7 @@ pub fn make(shape: Shape, delays: Delays, n: usize, frames: usize) -> Job {
             earliest[v] = below[v].iter().map(|&(d, _)| d).min().unwrap_or(0);
             let needs = below[v]
                 .iter()
-                .map(|&(d, held)| heaviest(&sums, d - earliest[v]).saturating_sub(held));
+                .map(|&(d, held)| heaviest(sums, d - earliest[v]).saturating_sub(held));
             let need = needs.max().unwrap_or(0);
             memory[v] = need * random.between(50, 100) / 100 + random.between(1, mean);
         }
@@ -261,12 +321,30 @@ pub fn make(shape: Shape, delays: Delays, n: usize, frames: usize) -> Job {
         let mut a = parent[v];
         while a != 0 {
             held += memory[a];
-            let most = heaviest(&sums, delay[v] - earliest[a]);
+            let most = heaviest(sums, delay[v] - earliest[a]);
             memory[v] = memory[v].max(most.saturating_sub(held));
             a = parent[a];
         }
     }
+    memory
+}
 
+/// A job that has a plan.
+pub fn make(shape: Shape, delays: Delays, greatest: usize, n: usize, frames: usize) -> Job {
+    let mut random = Random(0x52_4c59);
+    let sizes = frame_sizes(Film::Scenes, frames, &mut random);
+    let mut sums = vec![0];
+    for size in &sizes {
+        sums.push(sums[sums.len() - 1] + size);
+    }
+    let mean = sums[frames] / frames as u64;
+    let parent = tree(shape, n, &mut random);
+    let mut leaf = vec![true; n];
+    for v in 1..n {
+        leaf[parent[v]] = false;
+    }
+    let delay = leaf_delays(shape, delays, greatest, &leaf, &mut random);
+    let memory = memories(&parent, &leaf, &delay, &sums, &mut random);
     let records = (1..n).map(|v| Record {
         parent: parent[v],
         delay: delay[v],

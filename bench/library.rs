@@ -17,11 +17,10 @@ pub struct RateAnswer {
 }
 
 /// A running tree: its slot number, and what the link into each node has carried.
-/// A running tree: the slot number, and what each of the 64 places carries.
 pub type Running = [u64; 65];
 
 #[repr(C)]
-#[derive(Clone, Copy)]
+#[derive(Clone, Copy, Debug, PartialEq, Eq)]
 pub struct StepAnswer {
     pub number: u64,
     pub link: u64,

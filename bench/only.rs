@@ -1,0 +1,46 @@
+//! One side alone, for a profiler.
+
+use crate::jobs::{Delays, Film, Shape};
+use crate::{memory_table, rate_table, step_table};
+use std::time::{Duration, Instant};
+
+pub const USAGE: &str = "only library|peer QUESTION SHAPE NODES FRAMES
+QUESTION: spread or equal (delays of the memory question), scenes or alternating (films of the
+rate question), or step; SHAPE: as the tables have it";
+
+const LENGTH: Duration = Duration::from_secs(5);
+
+fn question(arguments: &[String]) -> Option<Box<dyn FnMut()>> {
+    let [only, side, question, shape, nodes, frames] = arguments else {
+        return None;
+    };
+    let library = side == "library";
+    if only != "only" || !library && side != "peer" {
+        return None;
+    }
+    let shape = Shape::named(shape)?;
+    let size = (nodes.parse().ok()?, frames.parse().ok()?);
+    match question.as_str() {
+        "spread" => Some(memory_table::alone(library, Delays::Spread, shape, size)),
+        "equal" => Some(memory_table::alone(library, Delays::Equal, shape, size)),
+        "scenes" => Some(rate_table::alone(library, Film::Scenes, shape, size)),
+        "alternating" => Some(rate_table::alone(library, Film::Alternating, shape, size)),
+        "step" => Some(step_table::alone(library, shape, size)),
+        _ => None,
+    }
+}
+
+/// Asks one side again and again for some seconds; says whether the arguments were understood.
+pub fn ask(arguments: &[String]) -> bool {
+    let Some(mut question) = question(arguments) else {
+        return false;
+    };
+    let start = Instant::now();
+    let mut count = 0;
+    while start.elapsed() < LENGTH {
+        question();
+        count += 1;
+    }
+    println!("asked {count} times");
+    true
+}

@@ -1,0 +1,193 @@
+//! Rows of a step of a running tree.
+
+use crate::jobs::{self, Delays, Job, Shape};
+use crate::library::{self, Running, StepAnswer};
+use crate::stepper::Stepper;
+use crate::timing::{best, seconds, Growth, Tally, GROWTH, NODES_DOUBLE, SLOTS_DOUBLE};
+use std::hint::black_box;
+
+const SIZES: [(usize, usize); 3] = [(4, 12), (16, 3_000), (64, 65_536)];
+/// Steps of a plan that are compared, spread over its slots.
+const COMPARED: usize = 40;
+
+/// A running tree with what a step of it reports.
+#[derive(Clone, PartialEq, Eq)]
+struct State {
+    tree: Running,
+    sent: Vec<u64>,
+    held: Vec<u64>,
+}
+
+impl State {
+    /// The tree that has taken column k.
+    fn at(k: usize, job: &Job, plan: &[u64]) -> State {
+        let links = job.parent.len() - 1;
+        let mut tree = [0; 65];
+        tree[0] = k as u64;
+        for i in 0..links {
+            tree[i + 2] = plan[i * job.slots + k];
+        }
+        State {
+            tree,
+            sent: vec![u64::MAX; links],
+            held: vec![u64::MAX; links],
+        }
+    }
+
+    fn by_library(&mut self, job: &Job, plan: &[u64]) -> StepAnswer {
+        let job = black_box(&job.bytes);
+        library::step(&mut self.tree, job, plan, &mut self.sent, &mut self.held)
+    }
+
+    fn by_peer(&mut self, stepper: &mut Stepper, job: &Job, plan: &[u64]) -> StepAnswer {
+        let job = black_box(&job.bytes);
+        stepper.step(&mut self.tree, job, plan, &mut self.sent, &mut self.held)
+    }
+}
+
+/// The library's plan of a job.
+fn plan_of(job: &Job) -> Vec<u64> {
+    let links = job.parent.len() - 1;
+    let mut plan = vec![0; links * job.slots];
+    library::memory_question(&job.bytes, &mut plan, &mut vec![0; links]);
+    plan
+}
+
+/// The number of the step from slot k by both sides, where they agree in all they give.
+fn number_at(stepper: &mut Stepper, job: &Job, plan: &[u64], k: usize) -> Result<u64, String> {
+    let mut ours = State::at(k, job, plan);
+    let mut theirs = ours.clone();
+    let answer = ours.by_library(job, plan);
+    let peer = theirs.by_peer(stepper, job, plan);
+    if answer != peer || ours != theirs {
+        return Err(format!("from slot {k}: library {answer:?}, peer {peer:?}"));
+    }
+    Ok(answer.number)
+}
+
+/// Steps from slots of the plan, with the last one, and of a plan with a number too large:
+/// what the two sides differ in, or what they should not say, if anything.
+fn difference(stepper: &mut Stepper, job: &Job, plan: &mut [u64]) -> Option<String> {
+    let last = job.slots - 1;
+    let links = job.parent.len() - 1;
+    for i in 0..=COMPARED {
+        let k = i * last / COMPARED;
+        let whole = number_at(stepper, job, plan, k);
+        let expected = if k == last { 100 } else { 0 };
+        if whole != Ok(expected) {
+            return Some(format!("{whole:?} and not {expected} from slot {k}"));
+        }
+        if k < last {
+            // On another link each time.
+            let at = i % links * job.slots + k + 1;
+            let kept = std::mem::replace(&mut plan[at], u64::MAX);
+            let broken = number_at(stepper, job, plan, k);
+            plan[at] = kept;
+            if broken != Ok(14) {
+                return Some(format!("{broken:?} and not 14 from slot {k}"));
+            }
+        }
+    }
+    None
+}
+
+/// Compares both sides, times them and prints a row.
+fn row(
+    stepper: &mut Stepper,
+    size: (usize, usize),
+    growth: Option<&mut Growth>,
+    tally: &mut Tally,
+) {
+    let (nodes, frames) = size;
+    let label = format!("random  {nodes:>5} {frames:>6}");
+    let job = jobs::make(Shape::Random, Delays::Spread, frames / 16, nodes, frames);
+    let mut plan = plan_of(&job);
+    if let Some(what) = difference(stepper, &job, &mut plan) {
+        return tally.mismatch(&label, &what);
+    }
+    let start = State::at(0, &job, &plan);
+    let (mut ours, mut theirs) = (start.clone(), start.clone());
+    // A tree that is done starts again.
+    let times = best(
+        || {
+            seconds(|| {
+                if ours.by_library(&job, &plan).number != 0 {
+                    ours.tree = start.tree;
+                }
+            })
+        },
+        || {
+            seconds(|| {
+                if theirs.by_peer(stepper, &job, &plan).number != 0 {
+                    theirs.tree = start.tree;
+                }
+            })
+        },
+    );
+    let work = (frames + nodes) as f64;
+    println!(
+        "{label} {:>11.0} {:>12.2} {:>8.0}{} {}",
+        times.library * 1e9,
+        times.library * 1e9 / work,
+        times.peer * 1e9,
+        growth.map_or(String::new(), |growth| growth.since(work, times.library)),
+        tally.judge(&label, times.ratio(), None)
+    );
+}
+
+fn heading(what: &str, growth: bool) {
+    println!("\nstep, {what}:");
+    println!(
+        "{:<7} {:>5} {:>6} {:>11} {:>12} {:>8}{} {:>6}",
+        "shape",
+        "nodes",
+        "frames",
+        "library ns",
+        "ns / (M + n)",
+        "peer ns",
+        if growth { GROWTH } else { "" },
+        "ratio"
+    );
+}
+
+/// Rows in which either the frames or the nodes double.
+fn growing(stepper: &mut Stepper, sizes: &[(usize, usize)], tally: &mut Tally) {
+    let mut growth = Growth::new();
+    for &size in sizes {
+        row(stepper, size, Some(&mut growth), tally);
+    }
+}
+
+/// Prints all rows of a step; says whether the two sides agreed.
+pub fn print() -> bool {
+    let mut stepper = Stepper::new();
+    let mut tally = Tally::new("step");
+    heading(
+        "the job read and checked anew in each; there is no bar",
+        false,
+    );
+    for size in SIZES {
+        row(&mut stepper, size, None, &mut tally);
+    }
+    heading("the frames double", true);
+    growing(&mut stepper, &SLOTS_DOUBLE, &mut tally);
+    heading("the nodes double", true);
+    growing(&mut stepper, &NODES_DOUBLE, &mut tally);
+    tally.close()
+}
+
+/// The first step by one side alone.
+pub fn alone(library: bool, shape: Shape, size: (usize, usize)) -> Box<dyn FnMut()> {
+    let job = jobs::make(shape, Delays::Spread, size.1 / 16, size.0, size.1);
+    let plan = plan_of(&job);
+    let mut stepper = Stepper::new();
+    let mut state = State::at(0, &job, &plan);
+    Box::new(move || {
+        state.tree = [0; 65];
+        black_box(if library {
+            state.by_library(&job, &plan)
+        } else {
+            state.by_peer(&mut stepper, &job, &plan)
+        });
+    })
+}

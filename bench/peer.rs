@@ -95,23 +95,10 @@ impl Peer {
         let total = add_up(film, &mut self.sums[MOST_DELAY + 1..]);
         self.sums[MOST_DELAY + frames + 1..MOST_DELAY + slots].fill(total);
 
-        for a in (0..slots).step_by(STRETCH) {
-            let e = (a + STRETCH).min(slots);
-            self.lower_rows(nodes, slots, a, e);
-            self.upper_rows(nodes, slots, total, a, e);
-            if self.starves(nodes, slots, a, e) {
-                return refused(12);
-            }
+        if !self.curves(nodes, slots, total) {
+            return refused(12);
         }
-        // The slots that set each peak so far.
-        let mut spans = Vec::with_capacity(MOST_NODES);
-        for i in 0..n - 1 {
-            let lower = &self.lower[i * slots..(i + 1) * slots];
-            let upper = &self.upper[i * slots..(i + 1) * slots];
-            let peak = least_peak(lower, upper, nodes[i + 1].delay, &mut spans);
-            lazy(lower, peak, &mut plan[i * slots..(i + 1) * slots]);
-            peaks[i] = peak as u64;
-        }
+        self.fill(nodes, slots, plan, peaks);
         for a in (0..slots).step_by(STRETCH) {
             close(nodes, plan, slots, a, (a + STRETCH).min(slots));
         }
@@ -119,6 +106,32 @@ impl Peer {
             number: 0,
             last_slot: last as u64,
             total: total as u64,
+        }
+    }
+
+    /// Both rows of every link; whether every leaf is served.
+    fn curves(&mut self, nodes: &[Node], slots: usize, total: i64) -> bool {
+        for a in (0..slots).step_by(STRETCH) {
+            let e = (a + STRETCH).min(slots);
+            self.lower_rows(nodes, slots, a, e);
+            self.upper_rows(nodes, slots, total, a, e);
+            if self.starves(nodes, slots, a, e) {
+                return false;
+            }
+        }
+        true
+    }
+
+    /// The least peak of every link, and its lazy row at that rate.
+    fn fill(&self, nodes: &[Node], slots: usize, plan: &mut [u64], peaks: &mut [u64]) {
+        // The slots that set each peak so far.
+        let mut spans = Vec::with_capacity(MOST_NODES);
+        for i in 0..nodes.len() - 1 {
+            let row = i * slots..(i + 1) * slots;
+            let (lower, upper) = (&self.lower[row.clone()], &self.upper[row.clone()]);
+            let peak = least_peak(lower, upper, nodes[i + 1].delay, &mut spans);
+            lazy(lower, peak, &mut plan[row]);
+            peaks[i] = peak as u64;
         }
     }
 

@@ -2,13 +2,43 @@
 
 use crate::jobs::{self, Delays, Job, Shape};
 use crate::library::{self, Running, StepAnswer};
+use crate::peer::MOST_DELAY;
 use crate::stepper::Stepper;
-use crate::timing::{best, seconds, Growth, Tally, GROWTH, NODES_DOUBLE, SLOTS_DOUBLE};
+use crate::timing::{best, seconds, Growth, Tally, Times, GROWTH, NODES_DOUBLE, SLOTS_DOUBLE};
+use std::cell::Cell;
 use std::hint::black_box;
 
 const SIZES: [(usize, usize); 3] = [(4, 12), (16, 3_000), (64, 65_536)];
 /// Steps of a plan that are compared, spread over its slots.
 const COMPARED: usize = 40;
+
+#[derive(Clone, Copy)]
+struct Case {
+    shape: Shape,
+    greatest_delay: usize,
+    size: (usize, usize),
+}
+
+impl Case {
+    fn plain(shape: Shape, size: (usize, usize)) -> Case {
+        Case {
+            shape,
+            greatest_delay: MOST_DELAY,
+            size,
+        }
+    }
+
+    fn job(self) -> Job {
+        let (nodes, frames) = self.size;
+        jobs::make(
+            self.shape,
+            Delays::Spread,
+            self.greatest_delay,
+            nodes,
+            frames,
+        )
+    }
+}
 
 /// A running tree with what a step of it reports.
 #[derive(Clone, PartialEq, Eq)]
@@ -91,39 +121,50 @@ fn difference(stepper: &mut Stepper, job: &Job, plan: &mut [u64]) -> Option<Stri
     None
 }
 
+/// Times of a step while the plan runs, from its start again once it is done; and a number of
+/// a step that was neither taken nor done, if any.
+fn times(stepper: &mut Stepper, job: &Job, plan: &[u64]) -> (Times, Option<u64>) {
+    let start = State::at(0, job, plan);
+    let (mut ours, mut theirs) = (start.clone(), start.clone());
+    let refused = Cell::new(None);
+    let go_on = |answer: StepAnswer, tree: &mut Running| match answer.number {
+        0 => {}
+        100 => *tree = start.tree,
+        number => refused.set(Some(number)),
+    };
+    let times = best(
+        || {
+            seconds(|| {
+                let answer = ours.by_library(job, plan);
+                go_on(answer, &mut ours.tree);
+            })
+        },
+        || {
+            seconds(|| {
+                let answer = theirs.by_peer(stepper, job, plan);
+                go_on(answer, &mut theirs.tree);
+            })
+        },
+    );
+    (times, refused.get())
+}
+
 /// Compares both sides, times them and prints a row.
-fn row(
-    stepper: &mut Stepper,
-    size: (usize, usize),
-    growth: Option<&mut Growth>,
-    tally: &mut Tally,
-) {
-    let (nodes, frames) = size;
-    let label = format!("random  {nodes:>5} {frames:>6}");
-    let job = jobs::make(Shape::Random, Delays::Spread, frames / 16, nodes, frames);
+fn row(stepper: &mut Stepper, case: Case, growth: Option<&mut Growth>, tally: &mut Tally) {
+    let (nodes, frames) = case.size;
+    let label = format!(
+        "{:<7} {nodes:>5} {frames:>6}",
+        case.shape.name(Delays::Spread)
+    );
+    let job = case.job();
     let mut plan = plan_of(&job);
     if let Some(what) = difference(stepper, &job, &mut plan) {
         return tally.mismatch(&label, &what);
     }
-    let start = State::at(0, &job, &plan);
-    let (mut ours, mut theirs) = (start.clone(), start.clone());
-    // A tree that is done starts again.
-    let times = best(
-        || {
-            seconds(|| {
-                if ours.by_library(&job, &plan).number != 0 {
-                    ours.tree = start.tree;
-                }
-            })
-        },
-        || {
-            seconds(|| {
-                if theirs.by_peer(stepper, &job, &plan).number != 0 {
-                    theirs.tree = start.tree;
-                }
-            })
-        },
-    );
+    let (times, refused) = times(stepper, &job, &plan);
+    if let Some(number) = refused {
+        return tally.mismatch(&label, &format!("a step of the plan is refused: {number}"));
+    }
     let work = (frames + nodes) as f64;
     println!(
         "{label} {:>11.0} {:>12.2} {:>8.0}{} {}",
@@ -154,7 +195,12 @@ fn heading(what: &str, growth: bool) {
 fn growing(stepper: &mut Stepper, sizes: &[(usize, usize)], tally: &mut Tally) {
     let mut growth = Growth::new();
     for &size in sizes {
-        row(stepper, size, Some(&mut growth), tally);
+        let case = Case {
+            shape: Shape::Random,
+            greatest_delay: size.1 / 16,
+            size,
+        };
+        row(stepper, case, Some(&mut growth), tally);
     }
 }
 
@@ -167,18 +213,23 @@ pub fn print() -> bool {
         false,
     );
     for size in SIZES {
-        row(&mut stepper, size, None, &mut tally);
+        row(
+            &mut stepper,
+            Case::plain(Shape::Random, size),
+            None,
+            &mut tally,
+        );
     }
-    heading("the frames double", true);
+    heading("the frames double (delays up to frames / 16)", true);
     growing(&mut stepper, &SLOTS_DOUBLE, &mut tally);
-    heading("the nodes double", true);
+    heading("the nodes double (delays up to frames / 16)", true);
     growing(&mut stepper, &NODES_DOUBLE, &mut tally);
     tally.close()
 }
 
 /// The first step by one side alone.
 pub fn alone(library: bool, shape: Shape, size: (usize, usize)) -> Box<dyn FnMut()> {
-    let job = jobs::make(shape, Delays::Spread, size.1 / 16, size.0, size.1);
+    let job = Case::plain(shape, size).job();
     let plan = plan_of(&job);
     let mut stepper = Stepper::new();
     let mut state = State::at(0, &job, &plan);

@@ -83,42 +83,50 @@ fn plan_of(job: &Job) -> Vec<u64> {
     plan
 }
 
-/// The number of the step from slot k by both sides, where they agree in all they give.
-fn number_at(stepper: &mut Stepper, job: &Job, plan: &[u64], k: usize) -> Result<u64, String> {
+/// What is wrong with the step from slot k by both sides, which should have this number.
+fn wrong_at(
+    stepper: &mut Stepper,
+    job: &Job,
+    plan: &[u64],
+    k: usize,
+    number: u64,
+) -> Option<String> {
     let mut ours = State::at(k, job, plan);
     let mut theirs = ours.clone();
     let answer = ours.by_library(job, plan);
     let peer = theirs.by_peer(stepper, job, plan);
-    if answer != peer || ours != theirs {
-        return Err(format!("from slot {k}: library {answer:?}, peer {peer:?}"));
+    if answer != peer || answer.number != number {
+        return Some(format!(
+            "from slot {k}: library {answer:?}, peer {peer:?}, not {number}"
+        ));
     }
-    Ok(answer.number)
+    if ours != theirs {
+        return Some(format!("from slot {k}: trees or reports differ"));
+    }
+    None
 }
 
-/// Steps from slots of the plan, with the last one, and of a plan with a number too large:
-/// what the two sides differ in, or what they should not say, if anything.
+/// What is wrong with steps from slots of the plan, the last too, and of a plan with a number
+/// too large.
 fn difference(stepper: &mut Stepper, job: &Job, plan: &mut [u64]) -> Option<String> {
     let last = job.slots - 1;
     let links = job.parent.len() - 1;
-    for i in 0..=COMPARED {
+    for i in 0..COMPARED {
         let k = i * last / COMPARED;
-        let whole = number_at(stepper, job, plan, k);
-        let expected = if k == last { 100 } else { 0 };
-        if whole != Ok(expected) {
-            return Some(format!("{whole:?} and not {expected} from slot {k}"));
+        let wrong = wrong_at(stepper, job, plan, k, 0);
+        if wrong.is_some() {
+            return wrong;
         }
-        if k < last {
-            // On another link each time.
-            let at = i % links * job.slots + k + 1;
-            let kept = std::mem::replace(&mut plan[at], u64::MAX);
-            let broken = number_at(stepper, job, plan, k);
-            plan[at] = kept;
-            if broken != Ok(14) {
-                return Some(format!("{broken:?} and not 14 from slot {k}"));
-            }
+        // On another link each time.
+        let at = i % links * job.slots + k + 1;
+        let kept = std::mem::replace(&mut plan[at], u64::MAX);
+        let wrong = wrong_at(stepper, job, plan, k, 14);
+        plan[at] = kept;
+        if wrong.is_some() {
+            return wrong;
         }
     }
-    None
+    wrong_at(stepper, job, plan, last, 100)
 }
 
 /// Times of a step while the plan runs, from its start again once it is done; and a number of

@@ -18,8 +18,8 @@ use std::process::ExitCode;
 const ABOUT: &str = "\
 Times are those of the thread's own clock, the best of 9 runs of each side in turn.
 Buffers: all are written once before and not cleared between runs. The library clears its own
-arrays on the stack in every call, in its time; a peer keeps its own from call to call and
-clears none. Two rows of the memory question have fresh pages, and say so.
+arrays on the stack in every call, in its time; a peer keeps its large arrays from call to call
+and does not clear them. Two rows of the memory question have fresh pages, and say so.
 A ratio is the library's time to the peer's. In a table of growth `work x` and `time x` are
 against the line before: work, and the library's time; 2.00 is doubled.";
 

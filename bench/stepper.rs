@@ -16,9 +16,9 @@ fn answer(number: u64, link: u64) -> StepAnswer {
 
 impl Stepper {
     pub fn new() -> Stepper {
-        Stepper {
-            sums: vec![0; MOST_FRAMES + 1],
-        }
+        let mut sums = vec![1; MOST_FRAMES + 1];
+        sums[0] = 0;
+        Stepper { sums }
     }
 
     /// A step, taken by the stepper.

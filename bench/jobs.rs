@@ -315,18 +315,31 @@ fn memories(
             .collect();
         below[parent[v]].extend(passed);
     }
-    // A leaf makes up for what the boxes above it do not hold.
     for v in (1..n).filter(|&v| leaf[v]) {
-        let mut held = 0;
-        let mut a = parent[v];
-        while a != 0 {
-            held += memory[a];
-            let most = heaviest(sums, delay[v] - earliest[a]);
-            memory[v] = memory[v].max(most.saturating_sub(held));
-            a = parent[a];
-        }
+        memory[v] = made_up(v, parent, delay[v], &earliest, &memory, sums);
     }
     memory
+}
+
+/// The memory of leaf v, enough to make up for what the boxes above it do not hold.
+fn made_up(
+    v: usize,
+    parent: &[usize],
+    delay: usize,
+    earliest: &[usize],
+    memory: &[u64],
+    sums: &[u64],
+) -> u64 {
+    let mut enough = memory[v];
+    let mut held = 0;
+    let mut a = parent[v];
+    while a != 0 {
+        held += memory[a];
+        let most = heaviest(sums, delay - earliest[a]);
+        enough = enough.max(most.saturating_sub(held));
+        a = parent[a];
+    }
+    enough
 }
 
 /// A job that has a plan.

@@ -49,6 +49,30 @@ struct Case {
     buffers: Buffers,
 }
 
+impl Case {
+    /// With delays up to the longest, and buffers of the run before.
+    fn plain(shape: Shape, delays: Delays, size: (usize, usize)) -> Case {
+        Case {
+            shape,
+            delays,
+            greatest_delay: MOST_DELAY,
+            nodes: size.0,
+            frames: size.1,
+            buffers: Buffers::Written,
+        }
+    }
+
+    fn job(self) -> Job {
+        jobs::make(
+            self.shape,
+            self.delays,
+            self.greatest_delay,
+            self.nodes,
+            self.frames,
+        )
+    }
+}
+
 struct Outputs {
     plan: Vec<u64>,
     peaks: Vec<u64>,
@@ -176,13 +200,7 @@ fn row(peer: &mut Peer, case: Case, growth: Option<&mut Growth>, tally: &mut Tal
         case.nodes,
         case.frames
     );
-    let job = jobs::make(
-        case.shape,
-        case.delays,
-        case.greatest_delay,
-        case.nodes,
-        case.frames,
-    );
+    let job = case.job();
     let mut ours = Outputs::with(u64::MAX, &job);
     let mut theirs = Outputs::with(u64::MAX, &job);
     let answer = ask_library(&job, &mut ours);
@@ -233,14 +251,10 @@ fn heading(what: &str, growth: bool) {
 fn growing(peer: &mut Peer, sizes: &[(usize, usize)], tally: &mut Tally) {
     for shape in GROWING {
         let mut growth = Growth::new();
-        for &(nodes, frames) in sizes {
+        for &size in sizes {
             let case = Case {
-                shape,
-                delays: Delays::Spread,
-                greatest_delay: frames / 16,
-                nodes,
-                frames,
-                buffers: Buffers::Written,
+                greatest_delay: size.1 / 16,
+                ..Case::plain(shape, Delays::Spread, size)
             };
             row(peer, case, Some(&mut growth), tally);
         }
@@ -256,15 +270,8 @@ pub fn print() -> bool {
         false,
     );
     for (shape, delays) in SHAPES {
-        for (nodes, frames) in SIZES {
-            let case = Case {
-                shape,
-                delays,
-                greatest_delay: MOST_DELAY,
-                nodes,
-                frames,
-                buffers: Buffers::Written,
-            };
+        for size in SIZES {
+            let case = Case::plain(shape, delays, size);
             row(&mut peer, case, None, &mut tally);
         }
     }
@@ -273,14 +280,9 @@ pub fn print() -> bool {
         false,
     );
     for shape in GROWING {
-        let (nodes, frames) = SIZES[1];
         let case = Case {
-            shape,
-            delays: Delays::Spread,
-            greatest_delay: MOST_DELAY,
-            nodes,
-            frames,
             buffers: Buffers::Fresh,
+            ..Case::plain(shape, Delays::Spread, SIZES[1])
         };
         row(&mut peer, case, None, &mut tally);
     }
@@ -299,7 +301,7 @@ pub fn alone(
     shape: Shape,
     size: (usize, usize),
 ) -> Box<dyn FnMut()> {
-    let job = jobs::make(shape, delays, MOST_DELAY, size.0, size.1);
+    let job = Case::plain(shape, delays, size).job();
     let mut peer = Peer::new();
     let mut outputs = Outputs::with(u64::MAX, &job);
     Box::new(move || {

@@ -224,11 +224,8 @@ pub fn add_up(film: &[u8], sums: &mut [i64]) -> i64 {
     total
 }
 
-/// Reads the job into `nodes`: the node count, the frame count and the bytes of the film.
-pub fn read<'a>(
-    job: &'a [u8],
-    nodes: &mut [Node; MOST_NODES],
-) -> Result<(usize, usize, &'a [u8]), u64> {
+/// The node count and the frame count of a job whose length fits them.
+fn counts(job: &[u8]) -> Result<(usize, usize), u64> {
     if job.len() < 10 {
         return Err(1);
     }
@@ -249,14 +246,15 @@ pub fn read<'a>(
     if job.len() != 10 + 19 * (n - 1) + 4 * frames {
         return Err(6);
     }
-    let (records, film) = job[10..].split_at(19 * (n - 1));
+    Ok((n, frames))
+}
+
+/// Reads the records into `nodes`; an inner node has the longest delay.
+fn read_nodes(records: &[u8], nodes: &mut [Node]) -> Result<(), u64> {
     let mut too_large = false;
     nodes[0] = Node {
-        parent: 0,
         delay: MOST_DELAY,
-        memory: 0,
-        rate: 0,
-        leaf: false,
+        ..Node::default()
     };
     for (i, record) in records.chunks_exact(19).enumerate() {
         let parent = usize::from(record[0]);
@@ -275,7 +273,7 @@ pub fn read<'a>(
         };
         nodes[parent].leaf = false;
     }
-    for node in &mut nodes[1..n] {
+    for node in &mut nodes[1..] {
         if node.delay > if node.leaf { MOST_DELAY } else { 0 } {
             return Err(8);
         }
@@ -286,6 +284,17 @@ pub fn read<'a>(
     if too_large {
         return Err(9);
     }
+    Ok(())
+}
+
+/// Reads the job into `nodes`: the node count, the frame count and the bytes of the film.
+pub fn read<'a>(
+    job: &'a [u8],
+    nodes: &mut [Node; MOST_NODES],
+) -> Result<(usize, usize, &'a [u8]), u64> {
+    let (n, frames) = counts(job)?;
+    let (records, film) = job[10..].split_at(19 * (n - 1));
+    read_nodes(records, &mut nodes[..n])?;
     // MOST_FRAME is ones alone, so some frame is larger just where the bits of all are.
     let sizes = film.as_chunks::<4>().0.iter();
     let bits = sizes.fold(0, |all, &f| all | u32::from_ne_bytes(f));

@@ -129,18 +129,20 @@ module _ (T : ℕ → ℕ) (low M : ℕ) (old places : List ℕ) (count j k last
     (few : k ≤ j) (here : at ≡ getD old (j - 1) 0) (next : to ≡ getD places j 0) (room : M < length places)
     (rest : (u : ℕ) → j ≤ u → getD places u 0 ≡ getD old u 0) (so : Marking T low 0 at places k last) (left : grown ≡ 0 → T to - T at ≤ low * (to - at))
     (how : Kept k last grown 0 k′) where
-  pub next-is : to ≡ getD old j 0
+  next-is : to ≡ getD old j 0
   next-is = next ∙ rest j (omega arith)
 
-  pub next-step : Step T low at to
+  next-step : Step T low at to
   next-step =
       let e : suc (j - 1) ≡ j = omega arith in
       rw (here, next-is) (rw e at (marks .steps (j - 1) (omega arith)))
 
-  pub rest-again : (u : ℕ) → j + 1 ≤ u → getD (set places (k′ - 1) to) u 0 ≡ getD old u 0
+  rest-again : (u : ℕ) → j + 1 ≤ u → getD (set places (k′ - 1) to) u 0 ≡ getD old u 0
   rest-again u h = getD-set-other places (k′ - 1) u to 0 (λ e. omega (arith, how .to)) ∙ rest u (omega arith)
 
-  pub coarse-next : Marking T low 0 to (set places (k′ - 1) to) k′ grown
-  coarse-next =
+  pub coarser : (to ≡ getD old j 0) × (((u : ℕ) → j + 1 ≤ u → getD (set places (k′ - 1) to) u 0 ≡ getD old u 0) × Marking T low 0 to (set places (k′ - 1) to) k′ grown)
+  coarser =
+      let on =
       mark-next T low 0 at to k last grown places so (omega (arith, next-is, marks .inside j more)) next-step
-      (λ h. step-low T low 0 at to next-step (left (omega arith))) k′ how
+      (λ h. step-low T low 0 at to next-step (left (omega arith))) k′ how in
+      (next-is, (rest-again, on))

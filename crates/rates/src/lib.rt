@@ -146,18 +146,11 @@ fn more(k: usize, last: u64, frame: u64, low: u64) -> usize
     if low < greater(last, frame) { k + 1 } else { k }
 }
 
-// Room for the places in the longest film.
-fn places_room() -> [usize; Job::MOST_FRAMES + 1]
-    ensures { λ r. ⌜ mostFrames + 1 ≡ length r ⌝ }
-{
-    [0usize; Job::MOST_FRAMES + 1]
-}
-
 // The slots at which a pass must stop, where no rate is less than `low`: the next one, or the last of several whose frames are all no larger
 // than `low`, in which no lead grows.
-fn mark(sums: &[u64], low: u64, places: &mut [usize; Job::MOST_FRAMES + 1]) -> usize
-    requires { ⌜ HoldsSums (now sums) × ((length (now sums) ≤ mostFrames + 1) × ((low ≤ greatestRate) × (mostFrames + 1 ≡ length (now places)))) ⌝ }
-    ensures { λ k. ⌜ (mostFrames + 1 ≡ length (now (places .exit))) × Marks (sumsIn (now (sums .entry))) low (length (now (sums .entry)) - 1) (now (places .exit)) k ⌝ }
+fn mark(sums: &[u64], low: u64, places: &mut [usize]) -> usize
+    requires { ⌜ HoldsSums (now sums) × ((length (now sums) ≤ mostFrames + 1) × ((low ≤ greatestRate) × (length (now sums) ≤ length (now places)))) ⌝ }
+    ensures { λ k. ⌜ Marks (sumsIn (now (sums .entry))) low (length (now (sums .entry)) - 1) (now (places .exit)) k ⌝ }
 {
     // Before the first frame, as if a larger one had been there.
     let mut last = low + 1;
@@ -176,8 +169,8 @@ fn mark(sums: &[u64], low: u64, places: &mut [usize; Job::MOST_FRAMES + 1]) -> u
 
 // Four needs, by one pass over the places: the most that what is played gets ahead of each rate. Four at a time, as each step for a rate waits
 // for the one before it.
-fn four_needs(sums: &[u64], places: &[usize; Job::MOST_FRAMES + 1], count: usize, r: Four) -> Four
-    requires { ⌜ HoldsSums (now sums) × ((length (now sums) ≤ mostFrames + 1) × (Marked (now sums) (now places) count (r .a) × (Marked (now sums) (now places) count (r .b) × (Marked (now sums) (now places) count (r .c) × Marked (now sums) (now places) count (r .d))))) ⌝ }
+fn four_needs(sums: &[u64], places: &[usize], count: usize, r: Four) -> Four
+    requires { ⌜ (HoldsSums (now sums) × (length (now sums) ≤ length (now places))) × ((length (now sums) ≤ mostFrames + 1) × (Marked (now sums) (now places) count (r .a) × (Marked (now sums) (now places) count (r .b) × (Marked (now sums) (now places) count (r .c) × Marked (now sums) (now places) count (r .d))))) ⌝ }
     ensures { λ x. ⌜ x ≡ fourOf (needOf (now (sums .entry))) r ⌝ }
 {
     let mut a = Lead { ahead: 0, most: 0 };
@@ -209,14 +202,9 @@ fn four_needs(sums: &[u64], places: &[usize; Job::MOST_FRAMES + 1], count: usize
 }
 
 // As few places as do where no rate is less than `low`: two steps in a row in which no lead grows are one.
-fn coarsen(
-    sums: &[u64],
-    low: u64,
-    places: &mut [usize; Job::MOST_FRAMES + 1],
-    count: usize,
-) -> usize
-    requires { ⌜ HoldsSums (now sums) × ((length (now sums) ≤ mostFrames + 1) × ((low ≤ greatestRate) × ((mostFrames + 1 ≡ length (now places)) × Marks (sumsIn (now sums)) low (length (now sums) - 1) (now places) count))) ⌝ }
-    ensures { λ k. ⌜ (mostFrames + 1 ≡ length (now (places .exit))) × Marks (sumsIn (now (sums .entry))) low (length (now (sums .entry)) - 1) (now (places .exit)) k ⌝ }
+fn coarsen(sums: &[u64], low: u64, places: &mut [usize], count: usize) -> usize
+    requires { ⌜ HoldsSums (now sums) × ((length (now sums) ≤ mostFrames + 1) × ((low ≤ greatestRate) × ((length (now sums) ≤ length (now places)) × Marks (sumsIn (now sums)) low (length (now sums) - 1) (now places) count))) ⌝ }
+    ensures { λ k. ⌜ Marks (sumsIn (now (sums .entry))) low (length (now (sums .entry)) - 1) (now (places .exit)) k ⌝ }
 {
     let mut last = 1;
     let mut at = 0;
@@ -315,19 +303,18 @@ fn hand_out(
 }
 
 // The need of each node at its place: four rates at a time, the lowest first, as the higher ones have fewer places to stop at.
-fn needs(job: Job, sums: &[u64]) -> [u64; Job::MOST_NODES]
-    requires { ⌜ TreeWithin (treeIn job) × (HoldsSums (now sums) × (length (now sums) ≤ mostFrames + 1)) ⌝ }
+fn needs(job: Job, sums: &[u64], places: &mut [usize]) -> [u64; Job::MOST_NODES]
+    requires { ⌜ TreeWithin (treeIn job) × (HoldsSums (now sums) × ((length (now sums) ≤ mostFrames + 1) × (length (now sums) ≤ length (now places)))) ⌝ }
     ensures { λ r. ⌜ r ≡ needsOf (treeIn job) (now (sums .entry)) ⌝ }
 {
     let floors = floor_rates(job);
-    let mut places = places_room();
     let mut y = least_rate(job);
-    let mut marks = mark(sums, y, &mut places);
+    let mut marks = mark(sums, y, places);
     let mut needs = [0u64; Job::MOST_NODES];
     while y <= Node::GREATEST_RATE {
         let r = next_four(&floors, y);
-        marks = coarsen(sums, r.a, &mut places, marks);
-        let x = four_needs(sums, &places, marks, r);
+        marks = coarsen(sums, r.a, places, marks);
+        let x = four_needs(sums, places, marks, r);
         hand_out(job.nodes, &floors, r, x, &mut needs);
         y = r.d + 1;
     }
@@ -365,25 +352,77 @@ fn fill(job: Job, needs: &[u64; Job::MOST_NODES], memories: &mut [u64]) -> u64
     all
 }
 
-// The work on an accepted job, with its sums.
-fn with_sums(job: Job, sums: &[u64], memories: &mut [u64]) -> Sizing
-    requires { ⌜ TreeWithin (treeIn job) × ((job .frames ≤ mostFrames) × (HoldsSums (now sums) × ((length (now sums) ≡ job .frames + 1) × (length (now memories) ≡ job .nodes - 1)))) ⌝ }
+// The work on an accepted job, with its sums, and room for the slots to stop at.
+fn with_sums(job: Job, sums: &[u64], places: &mut [usize], memories: &mut [u64]) -> Sizing
+    requires { ⌜ TreeWithin (treeIn job) × (((job .frames ≤ mostFrames) × (length (now sums) ≤ length (now places))) × (HoldsSums (now sums) × ((length (now sums) ≡ job .frames + 1) × (length (now memories) ≡ job .nodes - 1)))) ⌝ }
     ensures { λ r. ⌜ Worked r (treeIn job) (job .frames) (sumsIn (now (sums .entry))) (now (memories .entry)) (now (memories .exit)) ⌝ }
 {
     let w = start_delay(sums, least_rate(job));
     if w > Node::LONGEST_DELAY as u64 {
         return Sizing::Refused(13);
     }
-    let each = needs(job, sums);
+    let each = needs(job, sums, places);
     let all = fill(job, &each, memories);
     Sizing::Sized(w, all)
 }
 
-// Room for the sums of the longest film.
-fn sums_room() -> [u64; Job::MOST_FRAMES + 1]
+// The work on an accepted job, with room for its sums and for the slots to stop at.
+fn with_room(
+    bytes: &[u8],
+    job: Job,
+    room: &mut [u64],
+    places: &mut [usize],
+    memories: &mut [u64],
+) -> Sizing
+    requires { ⌜ Accepted (now bytes) job × (((job .frames < length (now room)) × (job .frames < length (now places))) × (length (now memories) ≡ job .nodes - 1)) ⌝ }
+    ensures { λ r. ⌜ Worked r (treeIn job) (job .frames) (sumsIn (tab (tree.T (jobOf (now (bytes .entry)))) (frameCount (now (bytes .entry)) + 1))) (now (memories .entry)) (now (memories .exit)) ⌝ }
+{
+    let count = job.frames + 1;
+    job::sums(bytes, &mut room[0..count]);
+    with_sums(job, &room[0..count], places, memories)
+}
+
+// Room for a film of fewer frames than this is cleared in little time; that for the longest film costs more than a short film's answer.
+const SHORT: usize = 16_385;
+
+fn short_sums() -> [u64; SHORT]
+    ensures { λ r. ⌜ 16385 ≡ length r ⌝ }
+{
+    [0u64; SHORT]
+}
+
+fn short_places() -> [usize; SHORT]
+    ensures { λ r. ⌜ 16385 ≡ length r ⌝ }
+{
+    [0usize; SHORT]
+}
+
+fn long_sums() -> [u64; Job::MOST_FRAMES + 1]
     ensures { λ r. ⌜ mostFrames + 1 ≡ length r ⌝ }
 {
     [0u64; Job::MOST_FRAMES + 1]
+}
+
+fn long_places() -> [usize; Job::MOST_FRAMES + 1]
+    ensures { λ r. ⌜ mostFrames + 1 ≡ length r ⌝ }
+{
+    [0usize; Job::MOST_FRAMES + 1]
+}
+
+// The work on an accepted job with a short film.
+fn with_short_film(bytes: &[u8], job: Job, memories: &mut [u64]) -> Sizing
+    requires { ⌜ Accepted (now bytes) job × ((job .frames < 16385) × (length (now memories) ≡ job .nodes - 1)) ⌝ }
+    ensures { λ r. ⌜ Worked r (treeIn job) (job .frames) (sumsIn (tab (tree.T (jobOf (now (bytes .entry)))) (frameCount (now (bytes .entry)) + 1))) (now (memories .entry)) (now (memories .exit)) ⌝ }
+{
+    let mut room = short_sums();
+    let mut places = short_places();
+    with_room(
+        bytes,
+        job,
+        &mut room[0..SHORT],
+        &mut places[0..SHORT],
+        memories,
+    )
 }
 
 // The work on an accepted job.
@@ -391,10 +430,18 @@ fn with_job(bytes: &[u8], job: Job, memories: &mut [u64]) -> Sizing
     requires { ⌜ Accepted (now bytes) job × (length (now memories) ≡ job .nodes - 1) ⌝ }
     ensures { λ r. ⌜ Worked r (treeIn job) (job .frames) (sumsIn (tab (tree.T (jobOf (now (bytes .entry)))) (frameCount (now (bytes .entry)) + 1))) (now (memories .entry)) (now (memories .exit)) ⌝ }
 {
-    let count = job.frames + 1;
-    let mut sums = sums_room();
-    job::sums(bytes, &mut sums[0..count]);
-    with_sums(job, &sums[0..count], memories)
+    if job.frames < SHORT {
+        return with_short_film(bytes, job, memories);
+    }
+    let mut room = long_sums();
+    let mut places = long_places();
+    with_room(
+        bytes,
+        job,
+        &mut room[0..Job::MOST_FRAMES + 1],
+        &mut places[0..Job::MOST_FRAMES + 1],
+        memories,
+    )
 }
 
 // The rate question.

@@ -2,95 +2,72 @@ use native.Mathlib.Omega.{arith}
 use borrow.Author.Needs.{needs}
 use Rattle.rates.proofs.with_job.Statement.{statement}
 use Rattle.rates.proofs.with_job.Tie as tie
-use Rattle.rates.proofs.with_job.Reads as reads
-use Rattle.rates.proofs.with_job.Lts as lts
-use Rattle.job.proofs.sums.Reads as sums-reads
-use Rattle.rates.proofs.sums_room.Reads as sums-room-reads
-use Rattle.rates.proofs.with_sums.Reads as with-sums-reads
-use mathlib.Core.Path.{_≡_, ap, sym, _∙_}
-use mathlib.Core.List.{List, _++_}
-use Prim.Native.Nat.{ℕ, _+_, _-_}
-use lib.Seq.{take-at}
-use Rattle.base.proofs.TableLaws.{length-tab}
-use Rattle.base.specs.Table.{tab}
-use Rattle.curves.proofs.SumsLaws.{job-sums}
-use Rattle.job.specs.Bytes.{frameCount, jobOf}
-use Rattle.job.specs.Tree.{T}
-use lib.ListN.{length, take, length-append}
 
--- as many sums as frames and one
-filled : (c : tie.After-sums2) → length (c .sums2 .last .1 .0) ≡ c .before .before .before .before .before .before .args .job .frames + 1
-filled c =
-    let st = c .before .before .before .before .before .before in
-    ap length (c .sums2 .ensures) ∙ length-tab (T (jobOf (st .args .bytes .now))) _ ∙ ap (λ (n : ℕ). n + 1) (sym (st .pre .0 .frames))
-
--- the part that is lent on holds T(0) to T(M)
-sums-part : (c : tie.After-sums2) (room : List ℕ)
-    → take (c .before .before .before .before .before .before .args .job .frames + 1 - 0) (c .sums2 .last .1 .0 ++ room) ≡ tab (T (jobOf (c .before .before .before .before .before .before .args .bytes .now))) (frameCount (c .before .before .before .before .before .before .args .bytes .now) + 1)
-sums-part c room =
-    let e : c .before .before .before .before .before .before .args .job .frames + 1 - 0 ≡ c .before .before .before .before .before .before .args .job .frames + 1 = omega arith in
-    rw e (take-at (c .sums2 .last .1 .0) room (c .before .before .before .before .before .before .args .job .frames + 1) (filled c)) ∙ c .sums2 .ensures
-
-add-count : tie.Need-add-count
-add-count c = search needs
-
-sums-room-requires : tie.Need-sums-room-requires
-sums-room-requires c κs = search needs
-
-sub-sums : tie.Need-sub-sums
-sub-sums c = search needs
-
-part-sums-start : tie.Need-part-sums-start
-part-sums-start c = search needs
-
-part-sums-end : tie.Need-part-sums-end
-part-sums-end c = search needs
-
-sums-requires : tie.Need-sums-requires
-sums-requires c κs = search needs
-
-sub-with-sums : tie.Need-sub-with-sums
-sub-with-sums c = search needs
-
-part-with-sums-start : tie.Need-part-with-sums-start
-part-with-sums-start c = search needs
-
-part-with-sums-end : tie.Need-part-with-sums-end
-part-with-sums-end c = simp length-append (omega (arith, filled (c .before .before), c .before .before .before .before .sums-room .ensures))
-
-with-sums-requires : tie.Need-with-sums-requires
-with-sums-requires c κs =
-    let acc = c .before .before .before .before .before .before .before .before .before .before .pre .0 in
-    let s = c .before .before .before .before .before .before .before .before .before .before .args .bytes .now in (
-      acc .tree-within,
-      (
-        omega (arith, acc .frames, acc .within .frames-to),
-        (
-          rw (sums-part (c .before .before .before .before)) (job-sums (jobOf s) (acc .within)),
-          (rw (sums-part (c .before .before .before .before), length-tab) (omega (arith, acc .frames)), c .before .before .before .before .before .before .before .before .before .before .pre .1),
-        ),
-      ),
-    )
+with-short-film-requires : tie.Need-with-short-film-requires
+with-short-film-requires c κs = let pre = c .before .before .before .before .before .pre in (pre .0, (c .before .if1 .taken, pre .1))
 
 same-length : tie.Need-same-length
 same-length c = search needs
 
 returns : tie.Need-returns
-returns c = rw (sums-part (c .before .before .before .before .before .before .before)) at (c .before .before .with-sums .ensures)
+returns c = c .before .before .with-short-film .ensures
+
+long-sums-requires : tie.Need-long-sums-requires
+long-sums-requires c κs = search needs
+
+long-places-requires : tie.Need-long-places-requires
+long-places-requires c κs = search needs
+
+add-with-room : tie.Need-add-with-room
+add-with-room c = search needs
+
+sub-with-room : tie.Need-sub-with-room
+sub-with-room c = search needs
+
+part-room-start : tie.Need-part-room-start
+part-room-start c = search needs
+
+part-room-end : tie.Need-part-room-end
+part-room-end c = search needs
+
+add-with-room-2 : tie.Need-add-with-room-2
+add-with-room-2 c = search needs
+
+sub-with-room-2 : tie.Need-sub-with-room-2
+sub-with-room-2 c = search needs
+
+part-places-start : tie.Need-part-places-start
+part-places-start c = search needs
+
+part-places-end : tie.Need-part-places-end
+part-places-end c = search needs
+
+with-room-requires : tie.Need-with-room-requires
+with-room-requires c κs = let pre = c .before .before .before .before .before .before .before .before .before .pre in (pre .0, ((search needs, search needs), pre .1))
+
+same-length-2 : tie.Need-same-length-2
+same-length-2 c = search needs
+
+returns-2 : tie.Need-returns-2
+returns-2 c = c .before .before .before .before .with-room .ensures
 
 pub with-job-spec : {M : Type 1} → statement M
 with-job-spec =
     tie.close
     (tie.spec
-    add-count
-    sums-room-requires
-    sub-sums
-    part-sums-start
-    part-sums-end
-    sums-requires
-    sub-with-sums
-    part-with-sums-start
-    part-with-sums-end
-    with-sums-requires
+    with-short-film-requires
     same-length
-    returns)
+    returns
+    long-sums-requires
+    long-places-requires
+    add-with-room
+    sub-with-room
+    part-room-start
+    part-room-end
+    add-with-room-2
+    sub-with-room-2
+    part-places-start
+    part-places-end
+    with-room-requires
+    same-length-2
+    returns-2)

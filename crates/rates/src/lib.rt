@@ -222,6 +222,25 @@ fn coarsen(sums: &[u64], low: u64, places: &mut [usize], count: usize) -> usize
     k
 }
 
+// The rate to thin out the places for: `a` where it is an eighth above the rate that they were thinned out for, as a pass costs time too.
+fn due(done: u64, a: u64) -> u64
+    requires { ⌜ (done ≤ a) × (a ≤ greatestRate) ⌝ }
+    ensures { λ r. ⌜ (done ≤ r) × (r ≤ a) ⌝ }
+{
+    if done + done / 8 < a { a } else { done }
+}
+
+// Places thinned out for rates from `low` on, if they aren't.
+fn thin(sums: &[u64], low: u64, done: u64, places: &mut [usize], count: usize) -> usize
+    requires { ⌜ HoldsSums (now sums) × ((length (now sums) ≤ mostFrames + 1) × ((low ≤ greatestRate) × ((length (now sums) ≤ length (now places)) × Marks (sumsIn (now sums)) low (length (now sums) - 1) (now places) count))) ⌝ }
+    ensures { λ k. ⌜ Marks (sumsIn (now (sums .entry))) low (length (now (sums .entry)) - 1) (now (places .exit)) k ⌝ }
+{
+    if low == done {
+        return count;
+    }
+    coarsen(sums, low, places, count)
+}
+
 // The floor rate of each node at its place; at other places a rate that is as high as any.
 fn floor_rates(job: Job) -> [u64; Job::MOST_NODES]
     requires { ⌜ TreeWithin (treeIn job) ⌝ }
@@ -309,13 +328,16 @@ fn needs(job: Job, sums: &[u64], places: &mut [usize]) -> [u64; Job::MOST_NODES]
 {
     let floors = floor_rates(job);
     let mut y = least_rate(job);
+    let mut done = y;
     let mut marks = mark(sums, y, places);
     let mut needs = [0u64; Job::MOST_NODES];
     while y <= Node::GREATEST_RATE {
         let r = next_four(&floors, y);
-        marks = coarsen(sums, r.a, places, marks);
+        let low = due(done, r.a);
+        marks = thin(sums, low, done, places, marks);
         let x = four_needs(sums, places, marks, r);
         hand_out(job.nodes, &floors, r, x, &mut needs);
+        done = low;
         y = r.d + 1;
     }
     needs

@@ -3,7 +3,7 @@ use native.Mathlib.Omega.{arith}
 use Rattle.rates.proofs.needs.Statement.{statement}
 use Rattle.rates.proofs.needs.Tie as tie
 use mathlib.Core.Path.{_≡_, refl, _∙_}
-use Prim.Native.Nat.{ℕ, _+_, _-_, _≤_, _<_, min}
+use Prim.Native.Nat.{ℕ, _+_, _-_, _≤_, _<_}
 use lib.ListN.{length}
 use Rattle.job.specs.Limits.{greatestRate}
 use Rattle.job.specs.Read.{treeIn}
@@ -14,13 +14,13 @@ use Rattle.rates.proofs.NeedLaws.{marks-higher}
 use Rattle.rates.proofs.FloorLaws.{rates-rise, needs-none, needs-more, needs-all}
 
 abbrev Inv-loop : tie.InvT-loop
-Inv-loop job sums places₀ floors y₀ marks₀ needs₀ places y marks needs =
+Inv-loop job sums places₀ floors y₀ done₀ marks₀ needs₀ places y done marks needs =
     (y ≤ greatestRate + 1)
     × (((length sums ≤ length places) × (length places ≡ length places₀))
-    × (Marks (sumsIn sums) (min y greatestRate) (length sums - 1) places marks × NeedsBelow (treeIn job) sums y needs))
+    × (((done ≤ y) × (done ≤ greatestRate)) × (Marks (sumsIn sums) done (length sums - 1) places marks × NeedsBelow (treeIn job) sums y needs)))
 
 abbrev μ-loop : tie.MeasureT-loop
-μ-loop job sums places₀ floors y₀ marks₀ needs₀ places y marks needs = greatestRate + 1 - y
+μ-loop job sums places₀ floors y₀ done₀ marks₀ needs₀ places y done marks needs = greatestRate + 1 - y
 
 floor-rates-requires : tie.Need-floor-rates-requires Inv-loop μ-loop
 floor-rates-requires c κs = search needs
@@ -40,62 +40,66 @@ loop-holds c =
     let mark = c .before .before .mark in
     let fits = least-rate-fits (treeIn (start .args .job)) (start .pre .0) in
     let sums = start .args .sums .now in
-    (omega (arith, low, fits), ((omega (arith, mark .kept .1 .1 .0, start .pre .1 .1 .1), refl), (marks-higher (sumsIn sums) _ _ (length sums - 1) _ _ (omega (arith, low, fits)) (mark .ensures), rw low (needs-none (treeIn (start .args .job)) (start .pre .0) sums))))
+    (omega (arith, low, fits), ((omega (arith, mark .kept .1 .1 .0, start .pre .1 .1 .1), refl), ((omega arith, omega (arith, low, fits)), (mark .ensures, rw low (needs-none (treeIn (start .args .job)) (start .pre .0) sums)))))
 
 next-four-requires : tie.Need-next-four-requires Inv-loop μ-loop
 next-four-requires c κs = search needs
 
-coarsen-requires : tie.Need-coarsen-requires Inv-loop μ-loop
-coarsen-requires c κs =
-    let l = c .before .before .before .before .loop in
-    let start = c .before .before .before .before .before .before .before .before .before .before .before .before .before in
+due-requires : tie.Need-due-requires Inv-loop μ-loop
+due-requires c κs =
+    let l = c .before .before .before .loop in
+    let next = c .next-four .ensures in
+    (omega (arith, next .a .from, l .inv .1 .1 .0), next .a .to)
+
+thin-requires : tie.Need-thin-requires Inv-loop μ-loop
+thin-requires c κs =
+    let l = c .before .before .before .before .before .loop in
+    let start = c .before .before .before .before .before .before .before .before .before .before .before .before .before .before in
     let sums = start .args .sums .now in
-    let next = c .before .next-four .ensures in
-    (start .pre .1 .0, (start .pre .1 .1 .0, (next .a .to, (l .inv .1 .0 .0, marks-higher (sumsIn sums) _ _ (length sums - 1) _ _ (next .a .from) (l .inv .1 .1 .0)))))
+    let due = c .before .due .ensures in
+    (start .pre .1 .0, (start .pre .1 .1 .0, (omega (arith, due .1, c .before .before .next-four .ensures .a .to), (l .inv .1 .0 .0, marks-higher (sumsIn sums) _ _ (length sums - 1) _ _ (due .0) (l .inv .1 .1 .1 .0)))))
 
 four-needs-requires : tie.Need-four-needs-requires Inv-loop μ-loop
 four-needs-requires c κs =
-    let start = c .before .before .before .before .before .before .before .before .before .before .before .before .before .before .before .before .before in
+    let start = c .before .before .before .before .before .before .before .before .before .before .before .before .before .before .before .before .before .before in
     let sums = start .args .sums .now in
-    let l = c .before .before .before .before .before .before .before .before .loop in
-    let coarsen = c .before .before .before .coarsen in
-    let r = c .before .before .before .before .before .next-four .result in
-    let (ya, (ab, (bc, (cd, dg)))) = rates-rise _ _ r (c .before .before .before .before .before .before .before .loop-test .taken) (c .before .before .before .before .before .next-four .ensures) in
-    let marked : (x : ℕ) → r .a ≤ x → x ≤ greatestRate → Marked sums _ _ x = λ x h l. record { marks = marks-higher (sumsIn sums) (r .a) x (length sums - 1) _ _ h (coarsen .ensures); rate = l } in
-    ((start .pre .1 .0, omega (arith, coarsen .kept .1 .1 .0, l .inv .1 .0 .0)), (start .pre .1 .1 .0, (marked (r .a) (omega arith) (omega arith), (marked (r .b) (omega arith) (omega arith), (marked (r .c) (omega arith) (omega arith), marked (r .d) (omega arith) (omega arith))))))
+    let l = c .before .before .before .before .before .before .before .before .before .loop in
+    let thin = c .before .before .before .thin in
+    let due = c .before .before .before .before .before .due in
+    let r = c .before .before .before .before .before .before .next-four .result in
+    let (ya, (ab, (bc, (cd, dg)))) = rates-rise _ _ r (c .before .before .before .before .before .before .before .before .loop-test .taken) (c .before .before .before .before .before .before .next-four .ensures) in
+    let marked : (x : ℕ) → r .a ≤ x → x ≤ greatestRate → Marked sums _ _ x = λ x h l. record { marks = marks-higher (sumsIn sums) (due .result) x (length sums - 1) _ _ (omega (arith, due .ensures .1)) (thin .ensures); rate = l } in
+    ((start .pre .1 .0, omega (arith, thin .kept .1 .1 .1 .0, l .inv .1 .0 .0)), (start .pre .1 .1 .0, (marked (r .a) (omega arith) (omega arith), (marked (r .b) (omega arith) (omega arith), (marked (r .c) (omega arith) (omega arith), marked (r .d) (omega arith) (omega arith))))))
 
 hand-out-requires : tie.Need-hand-out-requires Inv-loop μ-loop
 hand-out-requires c κs =
-    let start = c .before .before .before .before .before .before .before .before .before .before .before .before .before .before .before .before .before .before .before .before in
-    (omega (arith, start .pre .0 .nodes-from), (start .pre .0 .nodes-to, c .before .before .before .before .before .before .before .before .before .before .before .loop .inv .1 .1 .1 .long))
+    let start = c .before .before .before .before .before .before .before .before .before .before .before .before .before .before .before .before .before .before .before .before .before in
+    (omega (arith, start .pre .0 .nodes-from), (start .pre .0 .nodes-to, c .before .before .before .before .before .before .before .before .before .before .before .before .loop .inv .1 .1 .1 .1 .long))
 
 add-y : tie.Need-add-y Inv-loop μ-loop
-add-y c = omega (arith, c .before .before .before .before .before .before .before .before .before .before .next-four .ensures .d .to)
+add-y c = omega (arith, c .before .before .before .before .before .before .before .before .before .before .before .next-four .ensures .d .to)
 
 loop-less : tie.Need-loop-less Inv-loop μ-loop
 loop-less c =
-    let r = c .before .before .before .before .before .before .before .before .before .before .next-four .result in
-    let (ya, (ab, (bc, (cd, dg)))) = rates-rise _ _ r (c .before .before .before .before .before .before .before .before .before .before .before .before .loop-test .taken) (c .before .before .before .before .before .before .before .before .before .before .next-four .ensures) in
+    let r = c .before .before .before .before .before .before .before .before .before .before .before .next-four .result in
+    let (ya, (ab, (bc, (cd, dg)))) = rates-rise _ _ r (c .before .before .before .before .before .before .before .before .before .before .before .before .before .loop-test .taken) (c .before .before .before .before .before .before .before .before .before .before .before .next-four .ensures) in
     omega arith
 
 loop-again : tie.Need-loop-again Inv-loop μ-loop
 loop-again c =
-    let start = c .before .before .before .before .before .before .before .before .before .before .before .before .before .before .before .before .before .before .before .before .before .before in
-    let sums = start .args .sums .now in
+    let start = c .before .before .before .before .before .before .before .before .before .before .before .before .before .before .before .before .before .before .before .before .before .before .before in
     let t = treeIn (start .args .job) in
-    let l = c .before .before .before .before .before .before .before .before .before .before .before .before .before .loop in
-    let r = c .before .before .before .before .before .before .before .before .before .before .next-four .result in
-    let next = c .before .before .before .before .before .before .before .before .before .before .next-four .ensures in
-    let coarsen = c .before .before .before .before .before .before .before .before .coarsen in
-    let (ya, (ab, (bc, (cd, dg)))) = rates-rise _ _ r (c .before .before .before .before .before .before .before .before .before .before .before .before .loop-test .taken) next in
+    let l = c .before .before .before .before .before .before .before .before .before .before .before .before .before .before .loop in
+    let r = c .before .before .before .before .before .before .before .before .before .before .before .next-four .result in
+    let next = c .before .before .before .before .before .before .before .before .before .before .before .next-four .ensures in
+    let due = c .before .before .before .before .before .before .before .before .before .before .due .ensures in
+    let thin = c .before .before .before .before .before .before .before .before .thin in
+    let (ya, (ab, (bc, (cd, dg)))) = rates-rise _ _ r (c .before .before .before .before .before .before .before .before .before .before .before .before .before .loop-test .taken) next in
     let given = rw (c .before .before .before .before .four-needs .ensures) at (c .before .hand-out .ensures) in (
       omega arith,
       (
-        (omega (arith, coarsen .kept .1 .1 .0, l .inv .1 .0 .0), coarsen .kept .1 .1 .0 ∙ l .inv .1 .0 .1),
-        (
-          marks-higher (sumsIn sums) (r .a) _ (length sums - 1) _ _ (omega arith) (coarsen .ensures),
-          needs-more t (start .pre .0) sums _ _ _ (l .y) r (c .before .before .before .before .before .before .before .before .before .before .before .before .before .before .before .before .before .before .before .floor-rates .ensures) next (l .inv .1 .1 .1) given,
-        ),
+        (omega (arith, thin .kept .1 .1 .1 .0, l .inv .1 .0 .0), thin .kept .1 .1 .1 .0 ∙ l .inv .1 .0 .1),
+        ((omega (arith, due .1), omega (arith, due .1)), (thin .ensures, needs-more t (start .pre .0) (start .args .sums .now) _ _ _ (l .y) r (c .before .before .before .before .before .before .before .before .before .before .before .before .before .before .before .before .before .before .before .before .floor-rates .ensures) next (l .inv .1 .1 .1 .1) given)),
       ),
     )
 
@@ -105,7 +109,7 @@ same-length c = c .before .loop .inv .1 .0 .1 ∙ c .before .before .before .bef
 returns : tie.Need-returns Inv-loop μ-loop
 returns c =
     let start = c .before .before .before .before .before .before .before .before .before .before in
-    needs-all (treeIn (start .args .job)) (start .pre .0) (start .args .sums .now) _ _ (omega (arith, c .loop-test .left)) (c .before .loop .inv .1 .1 .1)
+    needs-all (treeIn (start .args .job)) (start .pre .0) (start .args .sums .now) _ _ (omega (arith, c .loop-test .left)) (c .before .loop .inv .1 .1 .1 .1)
 
 pub needs-spec : {M : Type 1} → statement M
 needs-spec =
@@ -118,7 +122,8 @@ needs-spec =
     mark-requires
     loop-holds
     next-four-requires
-    coarsen-requires
+    due-requires
+    thin-requires
     four-needs-requires
     hand-out-requires
     add-y

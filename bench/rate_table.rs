@@ -7,14 +7,17 @@ use crate::timing::{best, seconds, Growth, Tally, GROWTH, NODES_DOUBLE, SLOTS_DO
 use std::hint::black_box;
 
 const SIZE: (usize, usize) = (64, 65_536);
-const TREES: [(Shape, Rates, Film); 7] = [
-    (Shape::Star, Rates::Mixed, Film::Scenes),
-    (Shape::Chain, Rates::Mixed, Film::Scenes),
-    (Shape::Chain, Rates::Rising, Film::Scenes),
-    (Shape::Binary, Rates::Mixed, Film::Scenes),
-    (Shape::Random, Rates::Mixed, Film::Scenes),
-    (Shape::Chain, Rates::Rising, Film::Alternating),
-    (Shape::Random, Rates::Mixed, Film::Alternating),
+const TREES: [(Shape, Rates); 5] = [
+    (Shape::Star, Rates::Mixed),
+    (Shape::Chain, Rates::Mixed),
+    (Shape::Chain, Rates::Rising),
+    (Shape::Binary, Rates::Mixed),
+    (Shape::Random, Rates::Mixed),
+];
+/// Trees that are tried with a film made to be hard, in which large and small frames alternate.
+const HARD: [(Shape, Rates); 2] = [
+    (Shape::Chain, Rates::Rising),
+    (Shape::Random, Rates::Mixed),
 ];
 const BAR: f64 = 1.5;
 
@@ -105,13 +108,10 @@ fn growing(sizer: &mut Sizer, sizes: &[(usize, usize)], tally: &mut Tally) {
     }
 }
 
-/// Prints all rows of the rate question; says whether the two sides agreed.
-pub fn print() -> bool {
-    let mut sizer = Sizer::new();
-    let mut tally = Tally::new("rate question");
-    heading("ns for each frame and different floor rate", false);
+/// Rows of full size.
+fn full_size(sizer: &mut Sizer, trees: &[(Shape, Rates)], film: Film, tally: &mut Tally) {
     let (nodes, frames) = SIZE;
-    for (shape, rates, film) in TREES {
+    for &(shape, rates) in trees {
         let case = Case {
             shape,
             rates,
@@ -119,12 +119,22 @@ pub fn print() -> bool {
             nodes,
             frames,
         };
-        row(&mut sizer, case, None, &mut tally);
+        row(sizer, case, None, tally);
     }
+}
+
+/// Prints all rows of the rate question; says whether the two sides agreed.
+pub fn print() -> bool {
+    let mut sizer = Sizer::new();
+    let mut tally = Tally::new("rate question");
+    heading("ns for each frame and different floor rate", false);
+    full_size(&mut sizer, &TREES, Film::Scenes, &mut tally);
     heading("the frames double", true);
     growing(&mut sizer, &SLOTS_DOUBLE, &mut tally);
     heading("the nodes double", true);
     growing(&mut sizer, &NODES_DOUBLE, &mut tally);
+    heading("a film made to be hard", false);
+    full_size(&mut sizer, &HARD, Film::Alternating, &mut tally);
     tally.close()
 }
 

@@ -404,19 +404,33 @@ fn with_room(
     with_sums(job, &room[0..count], places, memories)
 }
 
-// Room for a film of fewer frames than this is cleared in little time; that for the longest film costs more than a short film's answer.
-const SHORT: usize = 16_385;
+// Rooms for films of fewer frames than these: to clear that for the longest film takes longer than a short film's answer.
+const SHORT: usize = 4_097;
+
+const MIDDLE: usize = 16_385;
 
 fn short_sums() -> [u64; SHORT]
-    ensures { λ r. ⌜ 16385 ≡ length r ⌝ }
+    ensures { λ r. ⌜ 4097 ≡ length r ⌝ }
 {
     [0u64; SHORT]
 }
 
 fn short_places() -> [usize; SHORT]
-    ensures { λ r. ⌜ 16385 ≡ length r ⌝ }
+    ensures { λ r. ⌜ 4097 ≡ length r ⌝ }
 {
     [0usize; SHORT]
+}
+
+fn middle_sums() -> [u64; MIDDLE]
+    ensures { λ r. ⌜ 16385 ≡ length r ⌝ }
+{
+    [0u64; MIDDLE]
+}
+
+fn middle_places() -> [usize; MIDDLE]
+    ensures { λ r. ⌜ 16385 ≡ length r ⌝ }
+{
+    [0usize; MIDDLE]
 }
 
 fn long_sums() -> [u64; Job::MOST_FRAMES + 1]
@@ -433,7 +447,7 @@ fn long_places() -> [usize; Job::MOST_FRAMES + 1]
 
 // The work on an accepted job with a short film.
 fn with_short_film(bytes: &[u8], job: Job, memories: &mut [u64]) -> Sizing
-    requires { ⌜ Accepted (now bytes) job × ((job .frames < 16385) × (length (now memories) ≡ job .nodes - 1)) ⌝ }
+    requires { ⌜ Accepted (now bytes) job × ((job .frames < 4097) × (length (now memories) ≡ job .nodes - 1)) ⌝ }
     ensures { λ r. ⌜ Worked r (treeIn job) (job .frames) (sumsIn (tab (tree.T (jobOf (now (bytes .entry)))) (frameCount (now (bytes .entry)) + 1))) (now (memories .entry)) (now (memories .exit)) ⌝ }
 {
     let mut room = short_sums();
@@ -447,6 +461,22 @@ fn with_short_film(bytes: &[u8], job: Job, memories: &mut [u64]) -> Sizing
     )
 }
 
+// The work on an accepted job with a middling film.
+fn with_middle_film(bytes: &[u8], job: Job, memories: &mut [u64]) -> Sizing
+    requires { ⌜ Accepted (now bytes) job × ((job .frames < 16385) × (length (now memories) ≡ job .nodes - 1)) ⌝ }
+    ensures { λ r. ⌜ Worked r (treeIn job) (job .frames) (sumsIn (tab (tree.T (jobOf (now (bytes .entry)))) (frameCount (now (bytes .entry)) + 1))) (now (memories .entry)) (now (memories .exit)) ⌝ }
+{
+    let mut room = middle_sums();
+    let mut places = middle_places();
+    with_room(
+        bytes,
+        job,
+        &mut room[0..MIDDLE],
+        &mut places[0..MIDDLE],
+        memories,
+    )
+}
+
 // The work on an accepted job.
 fn with_job(bytes: &[u8], job: Job, memories: &mut [u64]) -> Sizing
     requires { ⌜ Accepted (now bytes) job × (length (now memories) ≡ job .nodes - 1) ⌝ }
@@ -454,6 +484,9 @@ fn with_job(bytes: &[u8], job: Job, memories: &mut [u64]) -> Sizing
 {
     if job.frames < SHORT {
         return with_short_film(bytes, job, memories);
+    }
+    if job.frames < MIDDLE {
+        return with_middle_film(bytes, job, memories);
     }
     let mut room = long_sums();
     let mut places = long_places();

@@ -4,13 +4,22 @@ use Rattle.rates.proofs.with_job.Statement.{statement}
 use Rattle.rates.proofs.with_job.Tie as tie
 
 with-short-film-requires : tie.Need-with-short-film-requires
-with-short-film-requires c κs = let pre = c .before .before .before .before .before .pre in (pre .0, (c .before .if1 .taken, pre .1))
+with-short-film-requires c κs = search needs
 
 same-length : tie.Need-same-length
 same-length c = search needs
 
 returns : tie.Need-returns
-returns c = c .before .before .with-short-film .ensures
+returns c = search needs
+
+with-middle-film-requires : tie.Need-with-middle-film-requires
+with-middle-film-requires c κs = search needs
+
+same-length-2 : tie.Need-same-length-2
+same-length-2 c = search needs
+
+returns-2 : tie.Need-returns-2
+returns-2 c = search needs
 
 long-sums-requires : tie.Need-long-sums-requires
 long-sums-requires c κs = search needs
@@ -43,13 +52,13 @@ part-places-end : tie.Need-part-places-end
 part-places-end c = search needs
 
 with-room-requires : tie.Need-with-room-requires
-with-room-requires c κs = let pre = c .before .before .before .before .before .before .before .before .before .pre in (pre .0, ((search needs, search needs), pre .1))
+with-room-requires c κs = let pre = c .before .before .before .before .before .before .before .before .before .before .before .pre in (pre .0, ((search needs, search needs), pre .1))
 
-same-length-2 : tie.Need-same-length-2
-same-length-2 c = search needs
+same-length-3 : tie.Need-same-length-3
+same-length-3 c = search needs
 
-returns-2 : tie.Need-returns-2
-returns-2 c = c .before .before .before .before .with-room .ensures
+returns-3 : tie.Need-returns-3
+returns-3 c = search needs
 
 pub with-job-spec : {M : Type 1} → statement M
 with-job-spec =
@@ -58,6 +67,9 @@ with-job-spec =
     with-short-film-requires
     same-length
     returns
+    with-middle-film-requires
+    same-length-2
+    returns-2
     long-sums-requires
     long-places-requires
     add-with-room
@@ -69,5 +81,5 @@ with-job-spec =
     part-places-start
     part-places-end
     with-room-requires
-    same-length-2
-    returns-2)
+    same-length-3
+    returns-3)

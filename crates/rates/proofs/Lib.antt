@@ -3,8 +3,10 @@ pub mod DelayLaws
 pub mod TheoryLaws
 pub mod ServeLaws
 pub mod LeastLaws
-pub mod NeedLaws
 pub mod MarkLaws
+pub mod NeedLaws
+pub mod PlaceLaws
+pub mod TrimLaws
 pub mod WalkLaws
 pub mod WorkLaws
 pub mod FloorLaws

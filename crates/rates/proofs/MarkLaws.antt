@@ -1,21 +1,38 @@
 -- The places at which a pass stops: each next slot is a place of its own, or the last place moves on to it.
 use mathlib.Core.List.{List}
-use mathlib.Core.Logic.{⊎-elim, inr}
+use mathlib.Core.Logic.{_⊎_, inr}
 use mathlib.Core.Path.{_≡_, sym, _∙_}
 use Prim.Native.Nat.{ℕ, zero, suc, _+_, _-_, _*_, _≤_, _<_}
 use native.Mathlib.Omega.{arith}
 use native.Mathlib.Decide.{ℕ-discrete, decLt}
 use lib.ListN.{length, getD, set}
 use lib.Seq.{getD-set-same, getD-set-other}
-use Rattle.rates.specs.Work.{Low, Step, Marks, Kept}
+use Rattle.rates.specs.Work.{Kept}
 
--- up to slot m: where `last` is no more than the bar, no lead grows since the place before the last
-pub record Marking (T : ℕ → ℕ) (r bar m : ℕ) (places : List ℕ) (k last : ℕ) : Type 0 where
+-- no frame between slots a and b is larger than r
+abbrev pub Low : (ℕ → ℕ) → ℕ → ℕ → ℕ → Type 0
+Low T r a b = (m : ℕ) → a ≤ m → m < b → T (suc m) ≤ T m + r
+
+-- from a to b in one step: one slot, or slots in which nothing gets ahead
+abbrev pub Step : (ℕ → ℕ) → ℕ → ℕ → ℕ → Type 0
+Step T r a b = (a < b) × ((b ≡ suc a) ⊎ Low T r a b)
+
+-- k places lead from slot 0 to slot M by steps
+pub record Marks (T : ℕ → ℕ) (r M : ℕ) (places : List ℕ) (k : ℕ) : Type 0 where
+  pub some-place : 0 < k
+  pub few : k ≤ suc M
+  pub starts : getD places 0 0 ≡ 0
+  pub ends : getD places (k - 1) 0 ≡ M
+  pub inside : (j : ℕ) → j < k → getD places j 0 ≤ M
+  pub steps : (j : ℕ) → suc j < k → Step T r (getD places j 0) (getD places (suc j) 0)
+
+-- up to slot m: where `last` is no more than r, no lead grows since the place before the last
+pub record Marking (T : ℕ → ℕ) (r m : ℕ) (places : List ℕ) (k last : ℕ) : Type 0 where
   pub marks : Marks T r m places k
-  pub falling : last ≤ bar → (1 < k) × Low T r (getD places (k - 2) 0) m
+  pub falling : last ≤ r → (1 < k) × Low T r (getD places (k - 2) 0) m
 
-module _ (T : ℕ → ℕ) (r bar : ℕ) where
-  pub mark-start : (places : List ℕ) → getD places 0 0 ≡ 0 → Marking T r bar 0 places 1 (bar + 1)
+module _ (T : ℕ → ℕ) (r : ℕ) where
+  pub mark-start : (places : List ℕ) → getD places 0 0 ≡ 0 → Marking T r 0 places 1 (r + 1)
   mark-start places z =
       record {
         marks =
@@ -30,22 +47,9 @@ module _ (T : ℕ → ℕ) (r bar : ℕ) where
         falling = λ h. absurd (omega arith);
       }
 
-  -- a step of which the rate leaves nothing over is one in which no lead grows
-  pub step-low : (a b : ℕ) → Step T r a b → T b - T a ≤ r * (b - a) → Low T r a b
-  step-low a b (h, way) none = ⊎-elim one (λ low. low) way
-    where
-      one : b ≡ suc a → Low T r a b
-      one e m l u =
-          let s : m ≡ a = omega arith in
-          let d : b - a ≡ 1 = omega arith in
-          let z : r * 1 ≡ r = omega arith in
-          let flat : T b - T a ≤ r = rw (d, z) at none in
-          let rise : T b ≤ T a + r = omega (arith, flat) in
-          rw (s, sym e) rise
-
-  module _ (m to k last new : ℕ) (places : List ℕ) (so : Marking T r bar m places k last) (room : to < length places) (way : Step T r m to)
-      (flat : new ≤ bar → Low T r m to) where
-    kept : Marking T r bar to (set places k to) (suc k) new
+  module _ (m to k last new : ℕ) (places : List ℕ) (so : Marking T r m places k last) (room : to < length places) (way : Step T r m to)
+      (flat : new ≤ r → Low T r m to) where
+    kept : Marking T r to (set places k to) (suc k) new
     kept =
         let old = so .marks in
         let here : getD (set places k to) k 0 ≡ to = getD-set-same places k to 0 (omega (arith, so .marks .few, way .0)) in
@@ -76,7 +80,7 @@ module _ (T : ℕ → ℕ) (r bar : ℕ) where
         step-at j h (no ne) =
             rw (getD-set-other places k j to 0 (λ q. omega arith), getD-set-other places k (suc j) to 0 ne) (so .marks .steps j (omega arith))
 
-    moved : last ≤ bar → new ≤ bar → Marking T r bar to (set places (k - 1) to) k new
+    moved : last ≤ r → new ≤ r → Marking T r to (set places (k - 1) to) k new
     moved low-last low-new =
         let old = so .marks in
         let (many, run) = so .falling low-last in
@@ -113,36 +117,12 @@ module _ (T : ℕ → ℕ) (r bar : ℕ) where
         step-at many on j h (no ne) =
             rw (getD-set-other places (k - 1) j to 0 (λ q. omega arith), getD-set-other places (k - 1) (suc j) to 0 ne) (so .marks .steps j h)
 
-    pub mark-next : (k′ : ℕ) → Kept k last new bar k′ → Marking T r bar to (set places (k′ - 1) to) k′ new
+    pub mark-next : (k′ : ℕ) → Kept k last new r k′ → Marking T r to (set places (k′ - 1) to) k′ new
     mark-next k′ how = go (ℕ-discrete k′ k)
       where
-        go : Dec (k′ ≡ k) → Marking T r bar to (set places (k′ - 1) to) k′ new
+        go : Dec (k′ ≡ k) → Marking T r to (set places (k′ - 1) to) k′ new
         go (yes e) = let (a, b) = how .low e in rw e (moved a b)
         go (no ne) =
             let e : k′ ≡ suc k = omega (arith, how .from, how .to) in
             let back : suc k - 1 ≡ k = omega arith in
             rw (e, back) kept
-
--- ---- places gone through again
-
-module _ (T : ℕ → ℕ) (low M : ℕ) (old places : List ℕ) (count j k last at to grown k′ : ℕ) (marks : Marks T low M old count) (some : 0 < j) (more : j < count)
-    (few : k ≤ j) (here : at ≡ getD old (j - 1) 0) (next : to ≡ getD places j 0) (room : M < length places)
-    (rest : (u : ℕ) → j ≤ u → getD places u 0 ≡ getD old u 0) (so : Marking T low 0 at places k last) (left : grown ≡ 0 → T to - T at ≤ low * (to - at))
-    (how : Kept k last grown 0 k′) where
-  next-is : to ≡ getD old j 0
-  next-is = next ∙ rest j (omega arith)
-
-  next-step : Step T low at to
-  next-step =
-      let e : suc (j - 1) ≡ j = omega arith in
-      rw (here, next-is) (rw e at (marks .steps (j - 1) (omega arith)))
-
-  rest-again : (u : ℕ) → j + 1 ≤ u → getD (set places (k′ - 1) to) u 0 ≡ getD old u 0
-  rest-again u h = getD-set-other places (k′ - 1) u to 0 (λ e. omega (arith, how .to)) ∙ rest u (omega arith)
-
-  pub coarser : (to ≡ getD old j 0) × (((u : ℕ) → j + 1 ≤ u → getD (set places (k′ - 1) to) u 0 ≡ getD old u 0) × Marking T low 0 to (set places (k′ - 1) to) k′ grown)
-  coarser =
-      let on =
-      mark-next T low 0 at to k last grown places so (omega (arith, next-is, marks .inside j more)) next-step
-      (λ h. step-low T low 0 at to next-step (left (omega arith))) k′ how in
-      (next-is, (rest-again, on))

@@ -14,8 +14,8 @@ use Rattle.smoothing.proofs.LazyLaws.{lazy-above, lazy-rises, lazy-under}
 use Rattle.smoothing.proofs.NeedLaws.{need-above, need-least, need-delay}
 use Rattle.curves.specs.Curves.{Film}
 use Rattle.rates.specs.Rates.{floorRate, need}
-use Rattle.rates.specs.Work.{ahead, mostAhead, furtherOf, LeadAt, Low, Step, Marks}
-use Rattle.rates.specs.declared.Lead.{Lead}
+use Rattle.rates.specs.Work.{ahead, mostAhead}
+use Rattle.rates.proofs.MarkLaws.{Low, Step, Marks}
 use Rattle.rates.proofs.TheoryLaws.{question, good, floor-is, need-is}
 
 module _ (T : ℕ → ℕ) (grows : (m : ℕ) → T m ≤ T (suc m)) (q : ℕ) where
@@ -115,33 +115,29 @@ module _ (T : ℕ → ℕ) (grows : (m k : ℕ) → m ≤ k → T m ≤ T k) (r 
         most = rw e (omega (arith, ih .most, less, most-above T up r a a (omega arith)));
       }
 
-  pub lead-start : LeadAt T r 0 (record { ahead = 0; most = 0 })
-  unfolding ahead mostAhead
-  lead-start = record { so-much = refl; so-far = refl }
+  -- a step has what is ahead after it, and the most so far
+  pub record Stepped (a b : ℕ) : Type 0 where
+    pub so-much : ahead T r b ≡ ahead T r a + (T b - T a) - r * (b - a)
+    pub so-far : mostAhead T r b ≡ max (mostAhead T r a) (ahead T r b)
 
-  pub lead-step : (a b : ℕ) (p : Lead) → Step T r a b → LeadAt T r a p → LeadAt T r b (furtherOf p (T b - T a) (b - a) r)
+  pub stepped : (a b : ℕ) → Step T r a b → Stepped a b
   unfolding ahead mostAhead
-  lead-step a b p (h, way) at = ⊎-elim one many way
+  stepped a b (h, way) = ⊎-elim one many way
     where
-      one : b ≡ suc a → LeadAt T r b (furtherOf p (T b - T a) (b - a) r)
+      one : b ≡ suc a → Stepped a b
       one e =
           let d : suc a - a ≡ 1 = omega arith in
           let z : r * 1 ≡ r = omega arith in
-          rw (e, d, z, at .so-much, at .so-far) (record { so-much = refl; so-far = refl })
+          rw e (record { so-much = rw (d, z) refl; so-far = refl })
 
-      many : Low T r a b → LeadAt T r b (furtherOf p (T b - T a) (b - a) r)
+      many : Low T r a b → Stepped a b
       many low =
           let e : a + (b - a) ≡ b = omega arith in
           let f = fallen a (b - a) (rw e low) in
-          let left = rw e at (f .left) in
           record {
-            so-much = rw (at .so-much) (omega (arith, left));
-            so-far = rw (at .so-much, at .so-far) (omega (arith, left, rw e at (f .less), rw e at (f .most), most-above T up r a a (omega arith)));
+            so-much = rw e at (f .left);
+            so-far = omega (arith, rw e at (f .less), rw e at (f .most), most-above T up r a a (omega arith));
           }
-
-  -- a lead is no more than is played
-  pub lead-small : (m : ℕ) (p : Lead) → LeadAt T r m p → p .ahead ≤ T m
-  lead-small m p at = omega (arith, at .so-much, ahead-under T up r m)
 
 -- a higher rate can take the same steps
 pub marks-higher : (T : ℕ → ℕ) (low r M : ℕ) (places : List ℕ) (k : ℕ) → low ≤ r → Marks T low M places k → Marks T r M places k
@@ -154,6 +150,11 @@ marks-higher T low r M places k h marks =
       inside = marks .inside;
       steps = λ j l. let (q, way) = marks .steps j l in (q, ⊎-elim (λ e. inl e) (λ w. inr (λ m a b. omega (arith, h, w m a b))) way);
     }
+
+-- the largest of the frames gets ahead alone
+pub frame-next : (T : ℕ → ℕ) (frame m : ℕ) → ((r : ℕ) → frame - r ≤ mostAhead T r m) → (r : ℕ) → max frame (T (suc m) - T m) - r ≤ mostAhead T r (suc m)
+unfolding mostAhead ahead
+frame-next T frame m so r = omega (arith, so r)
 
 -- ---- the need
 

@@ -1,7 +1,6 @@
 -- What the rate question's inner functions are handed and give.
 use mathlib.Core.Bool.{true, false, cond}
 use mathlib.Core.List.{List}
-use mathlib.Core.Logic.{_⊎_}
 use mathlib.Core.Path.{_≡_}
 use Prim.Native.Nat.{ℕ, zero, suc, _+_, _-_, _*_, _≤_, _<_, max, min}
 use lib.ListN.{length, getD}
@@ -16,6 +15,7 @@ use Rattle.writing.specs.PutBack.{memoriesIn}
 use Rattle.rates.specs.Rates.{total, floorRate, leastRate, startDelay, memory}
 use Rattle.rates.specs.declared.Lead.{Lead}
 use Rattle.rates.specs.declared.Four.{Four}
+use Rattle.rates.specs.declared.Trimmed.{Trimmed}
 use Rattle.rates.specs.declared.Sizing.{Sizing}
 use Rattle.rates.specs.declared.Sizing.the-variants.{Refused, Sized}
 
@@ -34,32 +34,40 @@ mostAhead T r (suc m) = max (mostAhead T r m) (ahead T r (suc m))
 abbrev pub furtherOf : Lead → ℕ → ℕ → ℕ → Lead
 furtherOf p played slots r = record { ahead = p .ahead + played - r * slots; most = max (p .most) (p .ahead + played - r * slots) }
 
--- a lead is that at slot m
-pub record LeadAt (T : ℕ → ℕ) (r m : ℕ) (p : Lead) : Type 0 where
-  pub so-much : p .ahead ≡ ahead T r m
-  pub so-far : p .most ≡ mostAhead T r m
+-- the same by a pass that stops only at the first places of a list: how far ahead at place j, and the most up to it
+unfoldable pub aheadBy : (ℕ → ℕ) → List ℕ → ℕ → ℕ → ℕ
+aheadBy T places r zero = 0
+aheadBy T places r (suc j) = aheadBy T places r j + (T (getD places (suc j) 0) - T (getD places j 0)) - r * (getD places (suc j) 0 - getD places j 0)
 
--- no frame between slots a and b is larger than r
-abbrev pub Low : (ℕ → ℕ) → ℕ → ℕ → ℕ → Type 0
-Low T r a b = (m : ℕ) → a ≤ m → m < b → T (suc m) ≤ T m + r
+unfoldable pub mostBy : (ℕ → ℕ) → List ℕ → ℕ → ℕ → ℕ
+mostBy T places r zero = 0
+mostBy T places r (suc j) = max (mostBy T places r j) (aheadBy T places r (suc j))
 
--- from a to b in one step: one slot, or slots in which nothing gets ahead
-abbrev pub Step : (ℕ → ℕ) → ℕ → ℕ → ℕ → Type 0
-Step T r a b = (a < b) × ((b ≡ suc a) ⊎ Low T r a b)
+-- a lead is that at place j
+pub record LeadBy (T : ℕ → ℕ) (places : List ℕ) (r j : ℕ) (p : Lead) : Type 0 where
+  pub so-much : p .ahead ≡ aheadBy T places r j
+  pub so-far : p .most ≡ mostBy T places r j
 
--- k places lead from slot 0 to slot M by steps
-pub record Marks (T : ℕ → ℕ) (r M : ℕ) (places : List ℕ) (k : ℕ) : Type 0 where
+-- k places, from slot 0 on; at each rate from `low` on, a pass over them finds the most that is ahead up to slot M, or one frame alone gets as
+-- far ahead
+pub record Places (T : ℕ → ℕ) (low frame M : ℕ) (places : List ℕ) (k : ℕ) : Type 0 where
   pub some-place : 0 < k
   pub few : k ≤ suc M
   pub starts : getD places 0 0 ≡ 0
-  pub ends : getD places (k - 1) 0 ≡ M
   pub inside : (j : ℕ) → j < k → getD places j 0 ≤ M
-  pub steps : (j : ℕ) → suc j < k → Step T r (getD places j 0) (getD places (suc j) 0)
+  pub rising : (j : ℕ) → suc j < k → getD places j 0 < getD places (suc j) 0
+  pub enough : (r : ℕ) → low ≤ r → max (mostBy T places r (k - 1)) (frame - r) ≡ mostAhead T r M
 
 -- for rate r, over the sums T(0) to T(M)
-pub record Marked (sums places : List ℕ) (k r : ℕ) : Type 0 where
-  pub marks : Marks (sumsIn sums) r (length sums - 1) places k
+pub record PlacesAt (sums : List ℕ) (frame : ℕ) (places : List ℕ) (k r : ℕ) : Type 0 where
+  pub passes : Places (sumsIn sums) r frame (length sums - 1) places k
   pub rate : r ≤ greatestRate
+
+-- what the next place, with the lead at it, makes of what is known: a peak, a place to be kept for now, or one with which all since the peak go
+pub record Trims (t : Trimmed) (lead slack : ℕ) (t′ : Trimmed) : Type 0 where
+  pub peak : t .bar < lead → t′ ≡ record { last = t .last + 1; peak = t .last + 1; floor = lead; bar = lead }
+  pub between : lead ≤ t .bar → t .floor < lead → t′ ≡ record { last = t .last + 1; peak = t .peak; floor = t .floor; bar = t .bar }
+  pub low : lead ≤ t .bar → lead ≤ t .floor → t′ ≡ record { last = t .peak + 1; peak = t .peak; floor = lead; bar = min (t .bar) (lead + slack) }
 
 -- one more than k, or k where neither frame is larger than r
 pub record Kept (k last frame r k′ : ℕ) : Type 0 where

@@ -16,7 +16,7 @@ ghost use Rattle.job.proofs.RefusalLaws.{Accepted};
 ghost use Rattle.curves.specs.Curves.{sumsIn, HoldsSums};
 ghost use Rattle.rates.specs.Rates.{total, floorRate, leastRate, inTime};
 ghost use Rattle.rates.specs.Answer.{Sizes};
-ghost use Rattle.rates.specs.Work.{Later, furtherOf, Kept, Marks, Marked, needOf, fourOf, FloorsOf, NextRate, NextFour, chosen, HandedOut, needsOf, Needs, memoryBy, Worked};
+ghost use Rattle.rates.specs.Work.{Later, furtherOf, Kept, Trims, Places, PlacesAt, needOf, fourOf, FloorsOf, NextRate, NextFour, chosen, HandedOut, needsOf, Needs, memoryBy, Worked};
 use job::Job;
 use job::Node;
 
@@ -119,13 +119,6 @@ fn over(a: u64, b: u64) -> u64
     if b < a { a - b } else { 0 }
 }
 
-// 1 where a is more than b, else 0: a number, so that the pass that asks has no branch to guess.
-fn exceeds(a: u64, b: u64) -> u64
-    ensures { λ r. ⌜ (r ≡ 0 → a ≤ b) ⌝ }
-{
-    if b < a { 1 } else { 0 }
-}
-
 // The lead some slots further, in which so much is played.
 fn further(lead: Lead, played: u64, slots: u64, r: u64) -> Lead
     requires { ⌜ (lead .ahead ≤ greatestTotal) × ((played ≤ greatestTotal) × ((slots ≤ mostFrames) × (r ≤ greatestRate))) ⌝ }
@@ -146,31 +139,46 @@ fn more(k: usize, last: u64, frame: u64, low: u64) -> usize
     if low < greater(last, frame) { k + 1 } else { k }
 }
 
+// How many places a pass has to stop at, and the largest frame.
+pub struct Marked {
+    pub count: usize,
+    pub largest: u64,
+}
+
 // The slots at which a pass must stop, where no rate is less than `low`: the next one, or the last of several whose frames are all no larger
 // than `low`, in which no lead grows.
-fn mark(sums: &[u64], low: u64, places: &mut [usize]) -> usize
+fn mark(sums: &[u64], low: u64, places: &mut [usize]) -> Marked
     requires { ⌜ HoldsSums (now sums) × ((length (now sums) ≤ mostFrames + 1) × ((low ≤ greatestRate) × (length (now sums) ≤ length (now places)))) ⌝ }
-    ensures { λ k. ⌜ Marks (sumsIn (now (sums .entry))) low (length (now (sums .entry)) - 1) (now (places .exit)) k ⌝ }
+    ensures { λ r. ⌜ Places (sumsIn (now (sums .entry))) low (r .largest) (length (now (sums .entry)) - 1) (now (places .exit)) (r .count) ⌝ }
 {
     // Before the first frame, as if a larger one had been there.
     let mut last = low + 1;
+    let mut largest = 0;
     let mut k = 1;
     let mut m = 1;
     places[0] = 0;
     while m < sums.len() {
         let frame = sums[m] - sums[m - 1];
         k = more(k, last, frame, low);
+        largest = greater(largest, frame);
         places[k - 1] = m;
         last = frame;
         m += 1;
     }
-    k
+    Marked { count: k, largest }
+}
+
+// The more of a lead and of what a frame alone gets ahead of rate r.
+fn or_alone(most: u64, frame: u64, r: u64) -> u64
+    ensures { λ x. ⌜ x ≡ max most (frame - r) ⌝ }
+{
+    greater(most, over(frame, r))
 }
 
 // Four needs, by one pass over the places: the most that what is played gets ahead of each rate. Four at a time, as each step for a rate waits
-// for the one before it.
-fn four_needs(sums: &[u64], places: &[usize], count: usize, r: Four) -> Four
-    requires { ⌜ (HoldsSums (now sums) × (length (now sums) ≤ length (now places))) × ((length (now sums) ≤ mostFrames + 1) × (Marked (now sums) (now places) count (r .a) × (Marked (now sums) (now places) count (r .b) × (Marked (now sums) (now places) count (r .c) × Marked (now sums) (now places) count (r .d))))) ⌝ }
+// for the one before it. The places need not show what one frame, `largest`, alone gets ahead.
+fn four_needs(sums: &[u64], places: &[usize], count: usize, largest: u64, r: Four) -> Four
+    requires { ⌜ (HoldsSums (now sums) × (length (now sums) ≤ length (now places))) × ((length (now sums) ≤ mostFrames + 1) × (PlacesAt (now sums) largest (now places) count (r .a) × (PlacesAt (now sums) largest (now places) count (r .b) × (PlacesAt (now sums) largest (now places) count (r .c) × PlacesAt (now sums) largest (now places) count (r .d))))) ⌝ }
     ensures { λ x. ⌜ x ≡ fourOf (needOf (now (sums .entry))) r ⌝ }
 {
     let mut a = Lead { ahead: 0, most: 0 };
@@ -194,32 +202,91 @@ fn four_needs(sums: &[u64], places: &[usize], count: usize, r: Four) -> Four
         j += 1;
     }
     Four {
-        a: a.most,
-        b: b.most,
-        c: c.most,
-        d: d.most,
+        a: or_alone(a.most, largest, r.a),
+        b: or_alone(b.most, largest, r.b),
+        c: or_alone(c.most, largest, r.c),
+        d: or_alone(d.most, largest, r.d),
     }
 }
 
-// As few places as do where no rate is less than `low`: two steps in a row in which no lead grows are one.
-fn coarsen(sums: &[u64], low: u64, places: &mut [usize], count: usize) -> usize
-    requires { ⌜ HoldsSums (now sums) × ((length (now sums) ≤ mostFrames + 1) × ((low ≤ greatestRate) × ((length (now sums) ≤ length (now places)) × Marks (sumsIn (now sums)) low (length (now sums) - 1) (now places) count))) ⌝ }
-    ensures { λ k. ⌜ Marks (sumsIn (now (sums .entry))) low (length (now (sums .entry)) - 1) (now (places .exit)) k ⌝ }
+// What `coarsen` knows at a place, of a lead at the lowest rate: the last of the places that are left so far, the peak among them, the least
+// lead since that peak, and how high the lead may get without being a new peak.
+pub struct Trimmed {
+    pub last: usize,
+    pub peak: usize,
+    pub floor: u64,
+    pub bar: u64,
+}
+
+// The next place, with the lead at it. Above the bar it is a peak. On the floor all places since the peak go: at no rate does the lead get
+// higher between them than at the peak, or further ahead in a run of its own than the largest frame alone, which is the slack.
+fn trim(t: Trimmed, lead: u64, slack: u64) -> Trimmed
+    requires { ⌜ ((t .last ≤ mostFrames) × (t .peak ≤ mostFrames)) × ((lead ≤ greatestTotal) × (slack ≤ greatestTotal)) ⌝ }
+    ensures { λ r. ⌜ Trims t lead slack r ⌝ }
 {
-    let mut last = 1;
+    if t.bar < lead {
+        return Trimmed {
+            last: t.last + 1,
+            peak: t.last + 1,
+            floor: lead,
+            bar: lead,
+        };
+    }
+    if t.floor < lead {
+        return Trimmed {
+            last: t.last + 1,
+            peak: t.peak,
+            floor: t.floor,
+            bar: t.bar,
+        };
+    }
+    Trimmed {
+        last: t.peak + 1,
+        peak: t.peak,
+        floor: lead,
+        bar: lesser(t.bar, lead + slack),
+    }
+}
+
+// As few places as do where no rate is less than `low`.
+fn coarsen(sums: &[u64], low: u64, largest: u64, places: &mut [usize], count: usize) -> usize
+    requires { ⌜ HoldsSums (now sums) × ((length (now sums) ≤ mostFrames + 1) × ((low ≤ greatestRate) × ((length (now sums) ≤ length (now places)) × Places (sumsIn (now sums)) low largest (length (now sums) - 1) (now places) count))) ⌝ }
+    ensures { λ k. ⌜ Places (sumsIn (now (sums .entry))) low largest (length (now (sums .entry)) - 1) (now (places .exit)) k ⌝ }
+{
+    let slack = over(largest, low);
+    let mut t = Trimmed {
+        last: 0,
+        peak: 0,
+        floor: 0,
+        bar: slack,
+    };
+    let mut lead = 0;
     let mut at = 0;
-    let mut k = 1;
+    let mut sum = 0;
     let mut j = 1;
     while j < count {
         let to = places[j];
-        let grown = exceeds(sums[to] - sums[at], low * (to - at) as u64);
-        k = more(k, last, grown, 0);
-        places[k - 1] = to;
-        last = grown;
+        let next = sums[to];
+        lead = over(lead + (next - sum), low * (to - at) as u64);
+        t = trim(t, lead, slack);
+        let last = t.last;
+        places[last] = to;
         at = to;
+        sum = next;
         j += 1;
     }
-    k
+    t.last + 1
+}
+
+// The places for rates from `low` on, and the largest frame.
+fn first_places(sums: &[u64], low: u64, places: &mut [usize]) -> Marked
+    requires { ⌜ HoldsSums (now sums) × ((length (now sums) ≤ mostFrames + 1) × ((low ≤ greatestRate) × (length (now sums) ≤ length (now places)))) ⌝ }
+    ensures { λ r. ⌜ Places (sumsIn (now (sums .entry))) low (r .largest) (length (now (sums .entry)) - 1) (now (places .exit)) (r .count) ⌝ }
+{
+    let marked = mark(sums, low, places);
+    let largest = marked.largest;
+    let count = coarsen(sums, low, largest, places, marked.count);
+    Marked { count, largest }
 }
 
 // The rate to thin out the places for: `a` where it is an eighth above the rate that they were thinned out for, as a pass costs time too.
@@ -231,14 +298,14 @@ fn due(done: u64, a: u64) -> u64
 }
 
 // Places thinned out for rates from `low` on, if they aren't.
-fn thin(sums: &[u64], low: u64, done: u64, places: &mut [usize], count: usize) -> usize
-    requires { ⌜ HoldsSums (now sums) × ((length (now sums) ≤ mostFrames + 1) × ((low ≤ greatestRate) × ((length (now sums) ≤ length (now places)) × Marks (sumsIn (now sums)) low (length (now sums) - 1) (now places) count))) ⌝ }
-    ensures { λ k. ⌜ Marks (sumsIn (now (sums .entry))) low (length (now (sums .entry)) - 1) (now (places .exit)) k ⌝ }
+fn thin(sums: &[u64], low: u64, done: u64, largest: u64, places: &mut [usize], count: usize) -> usize
+    requires { ⌜ HoldsSums (now sums) × ((length (now sums) ≤ mostFrames + 1) × ((low ≤ greatestRate) × ((length (now sums) ≤ length (now places)) × Places (sumsIn (now sums)) low largest (length (now sums) - 1) (now places) count))) ⌝ }
+    ensures { λ k. ⌜ Places (sumsIn (now (sums .entry))) low largest (length (now (sums .entry)) - 1) (now (places .exit)) k ⌝ }
 {
     if low == done {
         return count;
     }
-    coarsen(sums, low, places, count)
+    coarsen(sums, low, largest, places, count)
 }
 
 // The floor rate of each node at its place; at other places a rate that is as high as any.
@@ -329,13 +396,15 @@ fn needs(job: Job, sums: &[u64], places: &mut [usize]) -> [u64; Job::MOST_NODES]
     let floors = floor_rates(job);
     let mut y = least_rate(job);
     let mut done = y;
-    let mut marks = mark(sums, y, places);
+    let first = first_places(sums, y, places);
+    let largest = first.largest;
+    let mut count = first.count;
     let mut needs = [0u64; Job::MOST_NODES];
     while y <= Node::GREATEST_RATE {
         let r = next_four(&floors, y);
         let low = due(done, r.a);
-        marks = thin(sums, low, done, places, marks);
-        let x = four_needs(sums, places, marks, r);
+        count = thin(sums, low, done, largest, places, count);
+        let x = four_needs(sums, places, count, largest, r);
         hand_out(job.nodes, &floors, r, x, &mut needs);
         done = low;
         y = r.d + 1;

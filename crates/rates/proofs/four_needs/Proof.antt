@@ -2,70 +2,99 @@ use borrow.Author.Needs.{needs}
 use native.Mathlib.Omega.{arith}
 use Rattle.rates.proofs.four_needs.Statement.{statement}
 use Rattle.rates.proofs.four_needs.Tie as tie
-use Rattle.rates.proofs.four_needs.Reads as reads
-use Rattle.rates.proofs.four_needs.Lts as lts
-use Rattle.rates.proofs.further.Reads as further-reads
-use mathlib.Core.Path.{_≡_, refl, ap, sym, _∙_}
-use Prim.Native.Nat.{ℕ, suc, _+_, _-_, _≤_, _<_}
+use mathlib.Core.List.{List}
+use mathlib.Core.Path.{_≡_, refl, sym, _∙_}
+use Prim.Native.Nat.{ℕ, suc, _+_, _-_, _≤_, _<_, max}
 use lib.ListN.{length, getD}
 use Rattle.job.specs.Limits.{mostFrames, greatestRate, greatestTotal}
 use Rattle.curves.specs.Curves.{sumsIn}
 use Rattle.curves.proofs.SumsLaws.{film-of, sum-fits, place-fits}
-use Rattle.rates.specs.Work.{furtherOf, Marked, Step, LeadAt}
+use Rattle.rates.specs.Work.{furtherOf, PlacesAt, LeadBy, needOf}
 use Rattle.rates.specs.declared.Lead.{Lead}
 use Rattle.rates.proofs.SumLaws.{sum-at}
-use Rattle.rates.proofs.NeedLaws.{lead-start, lead-step, lead-small}
+use Rattle.rates.proofs.PlaceLaws.{ahead-played, lead-start, lead-on, lead-all}
 
 abbrev Inv-loop : tie.InvT-loop
-Inv-loop sums places count r a₀ b₀ c₀ d₀ at₀ sum₀ j₀ a b c d at sum j = (0 < j) × ((j ≤ count) × ((at ≡ getD places (j - 1) 0) × ((sum ≡ sumsIn sums at) × (LeadAt (sumsIn sums) (r .a) at a × (LeadAt (sumsIn sums) (r .b) at b × (LeadAt (sumsIn sums) (r .c) at c × LeadAt (sumsIn sums) (r .d) at d))))))
+Inv-loop sums places count largest r a₀ b₀ c₀ d₀ at₀ sum₀ j₀ a b c d at sum j =
+    (0 < j)
+    × ((j ≤ count)
+    × ((at ≡ getD places (j - 1) 0)
+    × ((sum ≡ sumsIn sums at)
+    × (LeadBy (sumsIn sums) places (r .a) (j - 1) a
+    × (LeadBy (sumsIn sums) places (r .b) (j - 1) b
+    × (LeadBy (sumsIn sums) places (r .c) (j - 1) c × LeadBy (sumsIn sums) places (r .d) (j - 1) d))))))
 
 abbrev μ-loop : tie.MeasureT-loop
-μ-loop sums places count r a₀ b₀ c₀ d₀ at₀ sum₀ j₀ a b c d at sum j = count - j
+μ-loop sums places count largest r a₀ b₀ c₀ d₀ at₀ sum₀ j₀ a b c d at sum j = count - j
 
--- the next place is one of the sums'
-inside-sums : (c : tie.In-loop Inv-loop μ-loop) → getD (c .before .before .before .before .args .places .now) (c .before .loop .j) 0 < length (c .before .before .before .before .args .sums .now)
-inside-sums c = omega (arith, c .before .before .before .before .pre .1 .1 .0 .marks .inside (c .before .loop .j) (c .loop-test .taken), c .before .before .before .before .pre .0 .0 .some-sum)
+abbrev In : Type 0
+In = tie.In-loop Inv-loop μ-loop
 
--- and a step from the last one
-step : (c : tie.In-loop Inv-loop μ-loop) (r : ℕ) → Marked (c .before .before .before .before .args .sums .now) (c .before .before .before .before .args .places .now) (c .before .before .before .before .args .count) r
-    → Step (sumsIn (c .before .before .before .before .args .sums .now)) r (c .before .loop .at) (getD (c .before .before .before .before .args .places .now) (c .before .loop .j) 0)
-step c r marked =
-    let last : c .before .loop .j ≡ suc (c .before .loop .j - 1) = omega (arith, c .before .loop .inv .0) in
-    let way = marked .marks .steps (c .before .loop .j - 1) (omega (arith, c .loop-test .taken, last)) in
-    rw (sym last, sym (c .before .loop .inv .1 .1 .0)) at way
+abbrev sums-in : In → List ℕ
+sums-in i = i .before .before .before .before .args .sums .now
+
+abbrev places-in : In → List ℕ
+places-in i = i .before .before .before .before .args .places .now
+
+abbrev next-place : In → ℕ
+next-place i = getD (places-in i) (i .before .loop .j) 0
+
+abbrev Right : In → ℕ → Type 0
+Right i r = PlacesAt (sums-in i) (i .before .before .before .before .args .largest) (places-in i) (i .before .before .before .before .args .count) r
+
+this : (i : In) → suc (i .before .loop .j - 1) ≡ i .before .loop .j
+this i = omega (arith, i .before .loop .inv .0)
+
+-- the next place is one of the sums', after the last one
+inside-sums : (i : In) → next-place i < length (sums-in i)
+inside-sums i =
+    let pre = i .before .before .before .before .pre in
+    omega (arith, pre .1 .1 .0 .passes .inside (i .before .loop .j) (i .loop-test .taken), pre .0 .0 .some-sum)
+
+rising : (i : In) (u : ℕ) → u < i .before .loop .j → getD (places-in i) u 0 < getD (places-in i) (suc u) 0
+rising i u h = i .before .before .before .before .pre .1 .1 .0 .passes .rising u (omega (arith, i .loop-test .taken))
+
+forward : (i : In) → i .before .loop .at < next-place i
+forward i =
+    let up = rising i (i .before .loop .j - 1) (omega (arith, i .before .loop .inv .0)) in
+    omega (arith, rw (this i) at up, i .before .loop .inv .1 .1 .0)
 
 -- what the lead is asked
-small : (c : tie.In-loop Inv-loop μ-loop) (r : ℕ) (lead : Lead) → Marked (c .before .before .before .before .args .sums .now) (c .before .before .before .before .args .places .now) (c .before .before .before .before .args .count) r
-    → LeadAt (sumsIn (c .before .before .before .before .args .sums .now)) r (c .before .loop .at) lead
-    → (lead .ahead ≤ greatestTotal) × ((getD (c .before .before .before .before .args .sums .now) (getD (c .before .before .before .before .args .places .now) (c .before .loop .j) 0) 0 - c .before .loop .sum ≤ greatestTotal) × ((getD (c .before .before .before .before .args .places .now) (c .before .loop .j) 0 - c .before .loop .at ≤ mostFrames) × (r ≤ greatestRate)))
-small c r lead marked at =
-    let sums = c .before .before .before .before .args .sums .now in (
-      omega (arith, lead-small (sumsIn sums) (film-of sums (c .before .before .before .before .pre .0 .0) .grows) r (c .before .loop .at) lead at, sum-fits sums (c .before .before .before .before .pre .0 .0) (c .before .loop .at)),
-      (omega (arith, place-fits sums (c .before .before .before .before .pre .0 .0) _ (inside-sums c)), (omega (arith, inside-sums c, c .before .before .before .before .pre .1 .0), marked .rate)),
+small : (i : In) (r : ℕ) (lead : Lead) → Right i r → LeadBy (sumsIn (sums-in i)) (places-in i) r (i .before .loop .j - 1) lead
+    → (lead .ahead ≤ greatestTotal) × ((getD (sums-in i) (next-place i) 0 - i .before .loop .sum ≤ greatestTotal) × ((next-place i - i .before .loop .at ≤ mostFrames) × (r ≤ greatestRate)))
+small i r lead right by =
+    let sums = sums-in i in
+    let pre = i .before .before .before .before .pre in
+    let under = ahead-played (sumsIn sums) (film-of sums (pre .0 .0) .grows) r (places-in i) (i .before .loop .j - 1) (λ u h. rising i u (omega arith)) in (
+      omega (arith, by .so-much, under, sum-fits sums (pre .0 .0) (getD (places-in i) (i .before .loop .j - 1) 0)),
+      (omega (arith, place-fits sums (pre .0 .0) _ (inside-sums i)), (omega (arith, inside-sums i, pre .1 .0), right .rate)),
     )
 
 -- a lead further on
-on : (c : tie.In-loop Inv-loop μ-loop) (r : ℕ) (lead next : Lead) → Marked (c .before .before .before .before .args .sums .now) (c .before .before .before .before .args .places .now) (c .before .before .before .before .args .count) r
-    → LeadAt (sumsIn (c .before .before .before .before .args .sums .now)) r (c .before .loop .at) lead
-    → next ≡ furtherOf lead (getD (c .before .before .before .before .args .sums .now) (getD (c .before .before .before .before .args .places .now) (c .before .loop .j) 0) 0 - c .before .loop .sum) (getD (c .before .before .before .before .args .places .now) (c .before .loop .j) 0 - c .before .loop .at) r
-    → LeadAt (sumsIn (c .before .before .before .before .args .sums .now)) r (getD (c .before .before .before .before .args .places .now) (c .before .loop .j) 0) next
-on c r lead next marked at e =
-    let sums = c .before .before .before .before .args .sums .now in
-    rw (e, sum-at sums (getD (c .before .before .before .before .args .places .now) (c .before .loop .j) 0) (inside-sums c), c .before .loop .inv .1 .1 .1 .0)
-    (lead-step (sumsIn sums) (film-of sums (c .before .before .before .before .pre .0 .0) .grows) r (c .before .loop .at) (getD (c .before .before .before .before .args .places .now) (c .before .loop .j) 0) lead (step c r marked) at)
+on : (i : In) (r : ℕ) (lead next : Lead) → LeadBy (sumsIn (sums-in i)) (places-in i) r (i .before .loop .j - 1) lead
+    → next ≡ furtherOf lead (getD (sums-in i) (next-place i) 0 - i .before .loop .sum) (next-place i - i .before .loop .at) r
+    → LeadBy (sumsIn (sums-in i)) (places-in i) r (i .before .loop .j + 1 - 1) next
+on i r lead next by e =
+    let l = i .before .loop in
+    lead-on (sumsIn (sums-in i)) (places-in i) r (l .j) (l .at) (l .sum) _ lead next (l .inv .0) (l .inv .1 .1 .0) (l .inv .1 .1 .1 .0) (sum-at (sums-in i) (next-place i) (inside-sums i)) by e
 
 loop-holds : tie.Need-loop-holds Inv-loop μ-loop
 loop-holds c =
-    let sums = c .before .before .args .sums .now in
-    let film = film-of sums (c .before .before .pre .0 .0) in
-    let start : (r : ℕ) → LeadAt (sumsIn sums) r 0 (record { ahead = 0; most = 0 }) = λ r. lead-start (sumsIn sums) (film .grows) r in
-    (omega arith, (omega (arith, c .before .before .pre .1 .1 .0 .marks .some-place), (sym (c .before .before .pre .1 .1 .0 .marks .starts), (sym (film .starts), (start _, (start _, (start _, start _)))))))
+    let start = c .before .before in
+    let sums = start .args .sums .now in
+    let places = start .pre .1 .1 .0 .passes in
+    let first : (r : ℕ) → LeadBy (sumsIn sums) (start .args .places .now) r 0 (record { ahead = 0; most = 0 }) = lead-start (sumsIn sums) (start .args .places .now) in
+    (omega arith, (omega (arith, places .some-place), (sym (places .starts), (sym (film-of sums (start .pre .0 .0) .starts), (first _, (first _, (first _, first _)))))))
 
 mul-to : tie.Need-mul-to Inv-loop μ-loop
-mul-to c = omega (arith, c .loop-test .taken, c .before .before .before .before .pre .1 .1 .0 .marks .few, c .before .before .before .before .pre .1 .0, c .before .before .before .before .pre .0 .0 .some-sum)
+mul-to c =
+    let pre = c .before .before .before .before .pre in
+    omega (arith, c .loop-test .taken, pre .1 .1 .0 .passes .few, pre .1 .0, pre .0 .0 .some-sum)
 
 shared-slice-read-to : tie.Need-shared-slice-read-to Inv-loop μ-loop
-shared-slice-read-to c = omega (arith, c .before .loop-test .taken, c .before .before .before .before .before .pre .1 .1 .0 .marks .few, c .before .before .before .before .before .pre .0 .1, c .before .before .before .before .before .pre .0 .0 .some-sum)
+shared-slice-read-to c =
+    let pre = c .before .before .before .before .before .pre in
+    omega (arith, c .before .loop-test .taken, pre .1 .1 .0 .passes .few, pre .0 .1, pre .0 .0 .some-sum)
 
 mul-next : tie.Need-mul-next Inv-loop μ-loop
 mul-next c = omega (arith, inside-sums (c .before), c .before .before .before .before .before .pre .1 .0)
@@ -75,23 +104,37 @@ shared-slice-read-next c = inside-sums (c .before .before)
 
 sub-played : tie.Need-sub-played Inv-loop μ-loop
 sub-played c =
-    let sums = c .before .before .before .before .before .before .args .sums .now in
-    omega (arith, c .before .before .before .loop .inv .1 .1 .1 .0, sum-at sums (getD (c .before .before .before .before .before .before .args .places .now) (c .before .before .before .loop .j) 0) (inside-sums (c .before .before)), film-of sums (c .before .before .before .before .before .before .pre .0 .0) .grows (c .before .before .before .loop .at) (getD (c .before .before .before .before .before .before .args .places .now) (c .before .before .before .loop .j) 0) (omega (arith, step (c .before .before) (c .before .before .before .before .before .before .args .r .a) (c .before .before .before .before .before .before .pre .1 .1 .0) .0)))
+    let i = c .before .before in
+    let l = i .before .loop in
+    let sums = sums-in i in
+    omega (arith, l .inv .1 .1 .1 .0, sum-at sums (next-place i) (inside-sums i), film-of sums (i .before .before .before .before .pre .0 .0) .grows (l .at) (next-place i) (omega (arith, forward i)))
 
 sub-slots : tie.Need-sub-slots Inv-loop μ-loop
-sub-slots c = omega (arith, step (c .before .before) (c .before .before .before .before .before .before .args .r .a) (c .before .before .before .before .before .before .pre .1 .1 .0) .0)
+sub-slots c = omega (arith, forward (c .before .before))
 
 further-requires : tie.Need-further-requires Inv-loop μ-loop
-further-requires c κs = small (c .before .before) (c .before .before .before .before .before .before .args .r .a) (c .before .before .before .loop .a) (c .before .before .before .before .before .before .pre .1 .1 .0) (c .before .before .before .loop .inv .1 .1 .1 .1 .0)
+further-requires c κs =
+    let i = c .before .before in
+    let start = i .before .before .before .before in
+    small i (start .args .r .a) (i .before .loop .a) (start .pre .1 .1 .0) (i .before .loop .inv .1 .1 .1 .1 .0)
 
 further-requires-2 : tie.Need-further-requires-2 Inv-loop μ-loop
-further-requires-2 c κs = small (c .before .before .before) (c .before .before .before .before .before .before .before .args .r .b) (c .before .before .before .before .loop .b) (c .before .before .before .before .before .before .before .pre .1 .1 .1 .0) (c .before .before .before .before .loop .inv .1 .1 .1 .1 .1 .0)
+further-requires-2 c κs =
+    let i = c .before .before .before in
+    let start = i .before .before .before .before in
+    small i (start .args .r .b) (i .before .loop .b) (start .pre .1 .1 .1 .0) (i .before .loop .inv .1 .1 .1 .1 .1 .0)
 
 further-requires-3 : tie.Need-further-requires-3 Inv-loop μ-loop
-further-requires-3 c κs = small (c .before .before .before .before) (c .before .before .before .before .before .before .before .before .args .r .c) (c .before .before .before .before .before .loop .c) (c .before .before .before .before .before .before .before .before .pre .1 .1 .1 .1 .0) (c .before .before .before .before .before .loop .inv .1 .1 .1 .1 .1 .1 .0)
+further-requires-3 c κs =
+    let i = c .before .before .before .before in
+    let start = i .before .before .before .before in
+    small i (start .args .r .c) (i .before .loop .c) (start .pre .1 .1 .1 .1 .0) (i .before .loop .inv .1 .1 .1 .1 .1 .1 .0)
 
 further-requires-4 : tie.Need-further-requires-4 Inv-loop μ-loop
-further-requires-4 c κs = small (c .before .before .before .before .before) (c .before .before .before .before .before .before .before .before .before .args .r .d) (c .before .before .before .before .before .before .loop .d) (c .before .before .before .before .before .before .before .before .before .pre .1 .1 .1 .1 .1) (c .before .before .before .before .before .before .loop .inv .1 .1 .1 .1 .1 .1 .1)
+further-requires-4 c κs =
+    let i = c .before .before .before .before .before in
+    let start = i .before .before .before .before in
+    small i (start .args .r .d) (i .before .loop .d) (start .pre .1 .1 .1 .1 .1) (i .before .loop .inv .1 .1 .1 .1 .1 .1 .1)
 
 add-j : tie.Need-add-j Inv-loop μ-loop
 add-j c = search needs
@@ -101,14 +144,63 @@ loop-less c = omega (arith, c .before .before .before .before .before .before .l
 
 loop-again : tie.Need-loop-again Inv-loop μ-loop
 loop-again c =
-    let back : c .before .before .before .before .before .before .before .loop .j + 1 - 1 ≡ c .before .before .before .before .before .before .before .loop .j = omega arith in
-    (omega arith, (omega (arith, c .before .before .before .before .before .before .loop-test .taken), (rw back refl, (sum-at (c .before .before .before .before .before .before .before .before .before .before .args .sums .now) _ (inside-sums (c .before .before .before .before .before .before)), (on (c .before .before .before .before .before .before) (c .before .before .before .before .before .before .before .before .before .before .args .r .a) (c .before .before .before .before .before .before .before .loop .a) (c .before .before .before .further .result) (c .before .before .before .before .before .before .before .before .before .before .pre .1 .1 .0) (c .before .before .before .before .before .before .before .loop .inv .1 .1 .1 .1 .0) (c .before .before .before .further .ensures), (on (c .before .before .before .before .before .before) (c .before .before .before .before .before .before .before .before .before .before .args .r .b) (c .before .before .before .before .before .before .before .loop .b) (c .before .before .further2 .result) (c .before .before .before .before .before .before .before .before .before .before .pre .1 .1 .1 .0) (c .before .before .before .before .before .before .before .loop .inv .1 .1 .1 .1 .1 .0) (c .before .before .further2 .ensures), (on (c .before .before .before .before .before .before) (c .before .before .before .before .before .before .before .before .before .before .args .r .c) (c .before .before .before .before .before .before .before .loop .c) (c .before .further3 .result) (c .before .before .before .before .before .before .before .before .before .before .pre .1 .1 .1 .1 .0) (c .before .before .before .before .before .before .before .loop .inv .1 .1 .1 .1 .1 .1 .0) (c .before .further3 .ensures), on (c .before .before .before .before .before .before) (c .before .before .before .before .before .before .before .before .before .before .args .r .d) (c .before .before .before .before .before .before .before .loop .d) (c .further4 .result) (c .before .before .before .before .before .before .before .before .before .before .pre .1 .1 .1 .1 .1) (c .before .before .before .before .before .before .before .loop .inv .1 .1 .1 .1 .1 .1 .1) (c .further4 .ensures))))))))
+    let i = c .before .before .before .before .before .before in
+    let l = i .before .loop in
+    let r = i .before .before .before .before .args .r in
+    let back : l .j + 1 - 1 ≡ l .j = omega arith in (
+      omega arith,
+      (
+        omega (arith, i .loop-test .taken),
+        (
+          rw back refl,
+          (
+            sum-at (sums-in i) (next-place i) (inside-sums i),
+            (
+              on i (r .a) (l .a) (c .before .before .before .further .result) (l .inv .1 .1 .1 .1 .0) (c .before .before .before .further .ensures),
+              (
+                on i (r .b) (l .b) (c .before .before .further2 .result) (l .inv .1 .1 .1 .1 .1 .0) (c .before .before .further2 .ensures),
+                (
+                  on i (r .c) (l .c) (c .before .further3 .result) (l .inv .1 .1 .1 .1 .1 .1 .0) (c .before .further3 .ensures),
+                  on i (r .d) (l .d) (c .further4 .result) (l .inv .1 .1 .1 .1 .1 .1 .1) (c .further4 .ensures),
+                ),
+              ),
+            ),
+          ),
+        ),
+      ),
+    )
+
+or-alone-requires : tie.Need-or-alone-requires Inv-loop μ-loop
+or-alone-requires c κs = search needs
+
+or-alone-requires-2 : tie.Need-or-alone-requires-2 Inv-loop μ-loop
+or-alone-requires-2 c κs = search needs
+
+or-alone-requires-3 : tie.Need-or-alone-requires-3 Inv-loop μ-loop
+or-alone-requires-3 c κs = search needs
+
+or-alone-requires-4 : tie.Need-or-alone-requires-4 Inv-loop μ-loop
+or-alone-requires-4 c κs = search needs
 
 returns : tie.Need-returns Inv-loop μ-loop
 returns c =
-    let all : c .before .loop .j ≡ c .before .before .before .before .args .count = omega (arith, c .loop-test .left, c .before .loop .inv .1 .0) in
-    let ends : c .before .loop .at ≡ length (c .before .before .before .before .args .sums .now) - 1 = c .before .loop .inv .1 .1 .0 ∙ rw all (c .before .before .before .before .pre .1 .1 .0 .marks .ends) in
-    rw (sym ends, c .before .loop .inv .1 .1 .1 .1 .0 .so-far, c .before .loop .inv .1 .1 .1 .1 .1 .0 .so-far, c .before .loop .inv .1 .1 .1 .1 .1 .1 .0 .so-far, c .before .loop .inv .1 .1 .1 .1 .1 .1 .1 .so-far) refl
+    let end = c .before .before .before .before in
+    let start = end .before .before .before .before in
+    let l = end .before .loop in
+    let inv = l .inv .1 .1 .1 .1 in
+    let r = start .args .r in
+    let sums = start .args .sums .now in
+    let count = start .args .count in
+    let all : l .j ≡ count = omega (arith, end .loop-test .left, l .inv .1 .0) in
+    let found : (q x : ℕ) (lead : Lead) → PlacesAt sums (start .args .largest) (start .args .places .now) count q → LeadBy (sumsIn sums) (start .args .places .now) q (l .j - 1) lead
+        → x ≡ max (lead .most) (start .args .largest - q) → x ≡ needOf sums q =
+    λ q x lead right by is. lead-all (sumsIn sums) (start .args .largest) (length sums - 1) (start .args .places .now) count q lead x (right .passes) (rw all at by) is in
+    rw (
+      found (r .a) _ (l .a) (start .pre .1 .1 .0) (inv .0) (c .before .before .before .or-alone .ensures),
+      found (r .b) _ (l .b) (start .pre .1 .1 .1 .0) (inv .1 .0) (c .before .before .or-alone2 .ensures),
+      found (r .c) _ (l .c) (start .pre .1 .1 .1 .1 .0) (inv .1 .1 .0) (c .before .or-alone3 .ensures),
+      found (r .d) _ (l .d) (start .pre .1 .1 .1 .1 .1) (inv .1 .1 .1) (c .or-alone4 .ensures),
+    ) refl
 
 pub four-needs-spec : {M : Type 1} → statement M
 four-needs-spec =
@@ -130,4 +222,8 @@ four-needs-spec =
     add-j
     loop-less
     loop-again
+    or-alone-requires
+    or-alone-requires-2
+    or-alone-requires-3
+    or-alone-requires-4
     returns)

@@ -2,9 +2,6 @@ use borrow.Author.Needs.{needs}
 use native.Mathlib.Omega.{arith}
 use Rattle.rates.proofs.mark.Statement.{statement}
 use Rattle.rates.proofs.mark.Tie as tie
-use Rattle.rates.proofs.mark.Reads as reads
-use Rattle.rates.proofs.mark.Lts as lts
-use Rattle.rates.proofs.more.Reads as more-reads
 use mathlib.Core.Path.{_≡_, refl, ap, sym, _∙_}
 use Prim.Native.Nat.{ℕ, suc, _+_, _-_, _≤_, _<_}
 use lib.ListN.{length, getD, length-set}
@@ -12,15 +9,20 @@ use lib.Seq.{getD-set-same}
 use Rattle.curves.specs.Curves.{sumsIn}
 use Rattle.curves.proofs.SumsLaws.{film-of}
 use mathlib.Core.Logic.{inl}
-use Rattle.rates.specs.Work.{Low}
+use Rattle.rates.specs.Work.{mostAhead}
 use Rattle.rates.proofs.SumLaws.{sum-at}
-use Rattle.rates.proofs.MarkLaws.{Marking, mark-start, mark-next}
+use Rattle.rates.proofs.MarkLaws.{Low, Marking, mark-start, mark-next}
+use Rattle.rates.proofs.NeedLaws.{frame-next}
+use Rattle.rates.proofs.PlaceLaws.{marks-places}
 
 abbrev Inv-loop : tie.InvT-loop
-Inv-loop sums low places₀ last₀ k₀ m₀ places last k m = (0 < m) × ((m ≤ length sums) × ((length places ≡ length places₀) × Marking (sumsIn sums) low low (m - 1) places k last))
+Inv-loop sums low places₀ last₀ largest₀ k₀ m₀ places last largest k m =
+    (0 < m)
+    × ((m ≤ length sums)
+    × ((length places ≡ length places₀) × (Marking (sumsIn sums) low (m - 1) places k last × ((r : ℕ) → largest - r ≤ mostAhead (sumsIn sums) r (m - 1)))))
 
 abbrev μ-loop : tie.MeasureT-loop
-μ-loop sums low places₀ last₀ k₀ m₀ places last k m = length sums - m
+μ-loop sums low places₀ last₀ largest₀ k₀ m₀ places last largest k m = length sums - m
 
 add-last : tie.Need-add-last Inv-loop μ-loop
 add-last c = search needs
@@ -32,11 +34,18 @@ loop-holds : tie.Need-loop-holds Inv-loop μ-loop
 loop-holds c =
     let places = c .before .before .args .places .now in
     let pre = c .before .before .pre in
-    (omega arith, (omega (arith, pre .0 .some-sum), (refl, mark-start (sumsIn (c .before .before .args .sums .now)) (c .before .before .args .low) (c .before .before .args .low) _ (getD-set-same places 0 0 0 (omega (arith, pre .1 .1 .1, pre .0 .some-sum))))))
+    (omega arith, (omega (arith, pre .0 .some-sum), (refl, (mark-start (sumsIn (c .before .before .args .sums .now)) (c .before .before .args .low) _ (getD-set-same places 0 0 0 (omega (arith, pre .1 .1 .1, pre .0 .some-sum))), λ r. omega arith))))
+
+abbrev In : Type 0
+In = tie.In-loop Inv-loop μ-loop
 
 -- there is a place for each slot
-room : (c : tie.In-loop Inv-loop μ-loop) → length (c .before .before .before .before .args .sums .now) ≤ length (c .before .loop .places)
+room : (c : In) → length (c .before .before .before .before .args .sums .now) ≤ length (c .before .loop .places)
 room c = omega (arith, c .before .loop .inv .1 .1 .0, length-set (c .before .before .before .before .args .places .now) 0 0, c .before .before .before .before .pre .1 .1 .1)
+
+-- and there are no more places than slots
+few : (c : In) → c .before .loop .k < length (c .before .before .before .before .args .sums .now)
+few c = omega (arith, c .before .loop .inv .1 .1 .1 .0 .marks .few, c .loop-test .taken, c .before .loop .inv .0)
 
 mul-frame : tie.Need-mul-frame Inv-loop μ-loop
 mul-frame c = search needs
@@ -57,48 +66,59 @@ sub-frame-2 : tie.Need-sub-frame-2 Inv-loop μ-loop
 sub-frame-2 c = c .before .before .before .before .before .before .pre .0 .grows (c .before .before .before .loop .m - 1) (c .before .before .before .loop .m) (omega arith) (c .before .before .loop-test .taken)
 
 more-requires : tie.Need-more-requires Inv-loop μ-loop
-more-requires c κs = omega (arith, c .before .before .before .loop .inv .1 .1 .1 .marks .few, c .before .before .loop-test .taken, c .before .before .before .before .before .before .pre .1 .0)
+more-requires c κs = omega (arith, few (c .before .before), c .before .before .before .before .before .before .pre .1 .0)
+
+greater-requires : tie.Need-greater-requires Inv-loop μ-loop
+greater-requires c κs = search needs
 
 sub-places : tie.Need-sub-places Inv-loop μ-loop
-sub-places c = omega (arith, c .more .ensures .from, c .before .before .before .before .loop .inv .1 .1 .1 .marks .some-place)
+sub-places c = omega (arith, c .before .more .ensures .from, c .before .before .before .before .before .loop .inv .1 .1 .1 .0 .marks .some-place)
 
 mul-places : tie.Need-mul-places Inv-loop μ-loop
-mul-places c = omega (arith, c .more .ensures .to, c .before .before .before .before .loop .inv .1 .1 .1 .marks .few, c .before .before .before .loop-test .taken, c .before .before .before .before .before .before .before .pre .1 .0)
+mul-places c = omega (arith, c .before .more .ensures .to, few (c .before .before .before .before), c .before .before .before .before .before .before .before .before .pre .1 .0)
 
 slice-write-places-2 : tie.Need-slice-write-places-2 Inv-loop μ-loop
-slice-write-places-2 c = omega (arith, room (c .before .before .before), c .more .ensures .to, c .before .before .before .before .loop .inv .1 .1 .1 .marks .few, c .before .before .before .loop-test .taken, c .before .before .before .before .before .before .before .pre .1 .0)
+slice-write-places-2 c = omega (arith, c .before .more .ensures .to, few (c .before .before .before .before), room (c .before .before .before .before))
 
 add-m : tie.Need-add-m Inv-loop μ-loop
 add-m c = search needs
 
 loop-less : tie.Need-loop-less Inv-loop μ-loop
-loop-less c = omega (arith, c .before .before .before .loop-test .taken)
+loop-less c = omega (arith, c .before .before .before .before .loop-test .taken)
 
 loop-again : tie.Need-loop-again Inv-loop μ-loop
 loop-again c =
-    let sums = c .before .before .before .before .before .before .before .args .sums .now in
+    let i = c .before .before .before .before in
+    let start = i .before .before .before .before in
+    let taken = i .loop-test .taken in
+    let sums = start .args .sums .now in
     let T = sumsIn sums in
-    let m = c .before .before .before .before .loop .m in
+    let l = i .before .loop in
+    let m = l .m in
+    let k = c .before .more .result in
     let back : m + 1 - 1 ≡ m = omega arith in
-    let this : m ≡ suc (m - 1) = omega (arith, c .before .before .before .before .loop .inv .0) in
-    let here : getD sums m 0 ≡ T m = sum-at sums m (c .before .before .before .loop-test .taken) in
-    let last : getD sums (m - 1) 0 ≡ T (m - 1) = sum-at sums (m - 1) (omega (arith, c .before .before .before .loop-test .taken)) in
-    let how = rw (here ∙ ap T this, last) at (c .more .ensures) in
-    let low = c .before .before .before .before .before .before .before .args .low in
-    let l = c .before .before .before .before .loop in
-    let up : T (m - 1) ≤ T (suc (m - 1)) = film-of sums (c .before .before .before .before .before .before .before .pre .0) .grows (m - 1) (suc (m - 1)) (omega arith) in
-    let short : suc (m - 1) < length (l .places) = omega (arith, room (c .before .before .before), c .before .before .before .loop-test .taken, l .inv .0) in
+    let this : m ≡ suc (m - 1) = omega (arith, l .inv .0) in
+    let here : getD sums m 0 ≡ T m = sum-at sums m taken in
+    let last : getD sums (m - 1) 0 ≡ T (m - 1) = sum-at sums (m - 1) (omega (arith, taken)) in
+    let how = rw (here ∙ ap T this, last) at (c .before .more .ensures) in
+    let low = start .args .low in
+    let up : T (m - 1) ≤ T (suc (m - 1)) = film-of sums (start .pre .0) .grows (m - 1) (suc (m - 1)) (omega arith) in
+    let short : suc (m - 1) < length (l .places) = omega (arith, room i, taken, l .inv .0) in
     let flat : T (suc (m - 1)) - T (m - 1) ≤ low → Low T low (m - 1) (suc (m - 1)) = λ h x a b. let e : x ≡ m - 1 = omega arith in rw e (omega (arith, h, up)) in
-    let next = mark-next T low low (m - 1) (suc (m - 1)) (l .k) (l .last) (T (suc (m - 1)) - T (m - 1)) (l .places) (l .inv .1 .1 .1) short (omega arith, inl refl) flat (c .more .result) how in
-    (omega arith, (omega (arith, c .before .before .before .loop-test .taken), (length-set (l .places) (c .more .result - 1) m ∙ l .inv .1 .1 .0, rw (back, here, last) (rw (sym this) at next))))
+    let next = mark-next T low (m - 1) (suc (m - 1)) (l .k) (l .last) (T (suc (m - 1)) - T (m - 1)) (l .places) (l .inv .1 .1 .1 .0) short (omega arith, inl refl) flat k how in
+    let alone = frame-next T (l .largest) (m - 1) (l .inv .1 .1 .1 .1) in
+    (omega arith, (omega (arith, taken), (length-set (l .places) (k - 1) m ∙ l .inv .1 .1 .0, (rw (back, here, last) (rw (sym this) at next), rw (back, c .greater .ensures, here, last) (rw (sym this) at alone)))))
 
 same-length : tie.Need-same-length Inv-loop μ-loop
 same-length c = c .before .loop .inv .1 .1 .0 ∙ length-set (c .before .before .before .before .args .places .now) 0 0
 
 returns : tie.Need-returns Inv-loop μ-loop
 returns c =
-    let e : c .before .loop .m ≡ length (c .before .before .before .before .args .sums .now) = omega (arith, c .loop-test .left, c .before .loop .inv .1 .0) in
-    rw e at (c .before .loop .inv .1 .1 .1 .marks)
+    let start = c .before .before .before .before in
+    let sums = start .args .sums .now in
+    let l = c .before .loop in
+    let e : l .m ≡ length sums = omega (arith, c .loop-test .left, l .inv .1 .0) in
+    marks-places (sumsIn sums) (film-of sums (start .pre .0) .grows) _ _ _ _ (rw e at (l .inv .1 .1 .1 .0 .marks)) (l .largest) (rw e at (l .inv .1 .1 .1 .1))
 
 pub mark-spec : {M : Type 1} → statement M
 mark-spec =
@@ -116,6 +136,7 @@ mark-spec =
     shared-slice-read-frame-2
     sub-frame-2
     more-requires
+    greater-requires
     sub-places
     mul-places
     slice-write-places-2

@@ -8,19 +8,19 @@ use lib.ListN.{length}
 use Rattle.job.specs.Limits.{greatestRate}
 use Rattle.job.specs.Read.{treeIn}
 use Rattle.curves.specs.Curves.{sumsIn}
-use Rattle.rates.specs.Work.{Marks, Marked, NeedsBelow}
+use Rattle.rates.specs.Work.{Places, PlacesAt, NeedsBelow}
 use Rattle.rates.proofs.WorkLaws.{least-rate-fits}
-use Rattle.rates.proofs.NeedLaws.{marks-higher}
+use Rattle.rates.proofs.PlaceLaws.{places-higher}
 use Rattle.rates.proofs.FloorLaws.{rates-rise, needs-none, needs-more, needs-all}
 
 abbrev Inv-loop : tie.InvT-loop
-Inv-loop job sums places₀ floors y₀ done₀ marks₀ needs₀ places y done marks needs =
+Inv-loop job sums places₀ floors y₀ done₀ largest count₀ needs₀ places y done count needs =
     (y ≤ greatestRate + 1)
     × (((length sums ≤ length places) × (length places ≡ length places₀))
-    × (((done ≤ y) × (done ≤ greatestRate)) × (Marks (sumsIn sums) done (length sums - 1) places marks × NeedsBelow (treeIn job) sums y needs)))
+    × (((done ≤ y) × (done ≤ greatestRate)) × (Places (sumsIn sums) done largest (length sums - 1) places count × NeedsBelow (treeIn job) sums y needs)))
 
 abbrev μ-loop : tie.MeasureT-loop
-μ-loop job sums places₀ floors y₀ done₀ marks₀ needs₀ places y done marks needs = greatestRate + 1 - y
+μ-loop job sums places₀ floors y₀ done₀ largest count₀ needs₀ places y done count needs = greatestRate + 1 - y
 
 floor-rates-requires : tie.Need-floor-rates-requires Inv-loop μ-loop
 floor-rates-requires c κs = search needs
@@ -28,8 +28,8 @@ floor-rates-requires c κs = search needs
 least-rate-requires : tie.Need-least-rate-requires Inv-loop μ-loop
 least-rate-requires c κs = search needs
 
-mark-requires : tie.Need-mark-requires Inv-loop μ-loop
-mark-requires c κs =
+first-places-requires : tie.Need-first-places-requires Inv-loop μ-loop
+first-places-requires c κs =
     let start = c .before .before .before .before .before in
     (start .pre .1 .0, (start .pre .1 .1 .0, (omega (arith, c .before .least-rate .ensures, least-rate-fits (treeIn (start .args .job)) (start .pre .0)), start .pre .1 .1 .1)))
 
@@ -37,10 +37,10 @@ loop-holds : tie.Need-loop-holds Inv-loop μ-loop
 loop-holds c =
     let start = c .before .before .before .before .before .before .before .before in
     let low = c .before .before .before .before .least-rate .ensures in
-    let mark = c .before .before .mark in
+    let first = c .before .before .first-places in
     let fits = least-rate-fits (treeIn (start .args .job)) (start .pre .0) in
     let sums = start .args .sums .now in
-    (omega (arith, low, fits), ((omega (arith, mark .kept .1 .1 .0, start .pre .1 .1 .1), refl), ((omega arith, omega (arith, low, fits)), (mark .ensures, rw low (needs-none (treeIn (start .args .job)) (start .pre .0) sums)))))
+    (omega (arith, low, fits), ((omega (arith, first .kept .1 .1 .0, start .pre .1 .1 .1), refl), ((omega arith, omega (arith, low, fits)), (first .ensures, rw low (needs-none (treeIn (start .args .job)) (start .pre .0) sums)))))
 
 next-four-requires : tie.Need-next-four-requires Inv-loop μ-loop
 next-four-requires c κs = search needs
@@ -57,7 +57,7 @@ thin-requires c κs =
     let start = c .before .before .before .before .before .before .before .before .before .before .before .before .before .before in
     let sums = start .args .sums .now in
     let due = c .before .due .ensures in
-    (start .pre .1 .0, (start .pre .1 .1 .0, (omega (arith, due .1, c .before .before .next-four .ensures .a .to), (l .inv .1 .0 .0, marks-higher (sumsIn sums) _ _ (length sums - 1) _ _ (due .0) (l .inv .1 .1 .1 .0)))))
+    (start .pre .1 .0, (start .pre .1 .1 .0, (omega (arith, due .1, c .before .before .next-four .ensures .a .to), (l .inv .1 .0 .0, places-higher (sumsIn sums) _ _ _ (length sums - 1) _ _ (due .0) (l .inv .1 .1 .1 .0)))))
 
 four-needs-requires : tie.Need-four-needs-requires Inv-loop μ-loop
 four-needs-requires c κs =
@@ -68,8 +68,8 @@ four-needs-requires c κs =
     let due = c .before .before .before .before .before .due in
     let r = c .before .before .before .before .before .before .next-four .result in
     let (ya, (ab, (bc, (cd, dg)))) = rates-rise _ _ r (c .before .before .before .before .before .before .before .before .loop-test .taken) (c .before .before .before .before .before .before .next-four .ensures) in
-    let marked : (x : ℕ) → r .a ≤ x → x ≤ greatestRate → Marked sums _ _ x = λ x h l. record { marks = marks-higher (sumsIn sums) (due .result) x (length sums - 1) _ _ (omega (arith, due .ensures .1)) (thin .ensures); rate = l } in
-    ((start .pre .1 .0, omega (arith, thin .kept .1 .1 .1 .0, l .inv .1 .0 .0)), (start .pre .1 .1 .0, (marked (r .a) (omega arith) (omega arith), (marked (r .b) (omega arith) (omega arith), (marked (r .c) (omega arith) (omega arith), marked (r .d) (omega arith) (omega arith))))))
+    let right : (x : ℕ) → r .a ≤ x → x ≤ greatestRate → PlacesAt sums _ _ _ x = λ x h l. record { passes = places-higher (sumsIn sums) (due .result) x _ (length sums - 1) _ _ (omega (arith, due .ensures .1)) (thin .ensures); rate = l } in
+    ((start .pre .1 .0, omega (arith, thin .kept .1 .1 .1 .1 .0, l .inv .1 .0 .0)), (start .pre .1 .1 .0, (right (r .a) (omega arith) (omega arith), (right (r .b) (omega arith) (omega arith), (right (r .c) (omega arith) (omega arith), right (r .d) (omega arith) (omega arith))))))
 
 hand-out-requires : tie.Need-hand-out-requires Inv-loop μ-loop
 hand-out-requires c κs =
@@ -98,13 +98,13 @@ loop-again c =
     let given = rw (c .before .before .before .before .four-needs .ensures) at (c .before .hand-out .ensures) in (
       omega arith,
       (
-        (omega (arith, thin .kept .1 .1 .1 .0, l .inv .1 .0 .0), thin .kept .1 .1 .1 .0 ∙ l .inv .1 .0 .1),
+        (omega (arith, thin .kept .1 .1 .1 .1 .0, l .inv .1 .0 .0), thin .kept .1 .1 .1 .1 .0 ∙ l .inv .1 .0 .1),
         ((omega (arith, due .1), omega (arith, due .1)), (thin .ensures, needs-more t (start .pre .0) (start .args .sums .now) _ _ _ (l .y) r (c .before .before .before .before .before .before .before .before .before .before .before .before .before .before .before .before .before .before .before .before .floor-rates .ensures) next (l .inv .1 .1 .1 .1) given)),
       ),
     )
 
 same-length : tie.Need-same-length Inv-loop μ-loop
-same-length c = c .before .loop .inv .1 .0 .1 ∙ c .before .before .before .before .mark .kept .1 .1 .0
+same-length c = c .before .loop .inv .1 .0 .1 ∙ c .before .before .before .before .first-places .kept .1 .1 .0
 
 returns : tie.Need-returns Inv-loop μ-loop
 returns c =
@@ -119,7 +119,7 @@ needs-spec =
     μ-loop
     floor-rates-requires
     least-rate-requires
-    mark-requires
+    first-places-requires
     loop-holds
     next-four-requires
     due-requires

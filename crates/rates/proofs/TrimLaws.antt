@@ -340,7 +340,7 @@ module _ (T : ℕ → ℕ) (grows : (m k : ℕ) → m ≤ k → T m ≤ T k) (lo
         }
 
     between-next : aheadBy T old low (suc j) ≤ t .bar → t .floor ≤ aheadBy T old low (suc j)
-        → Trimming T low frame old (set places (suc (t .last)) to) (suc j) (record { last = suc (t .last); peak = t .peak; floor = t .floor; bar = t .bar }) (aheadBy T old low (suc j))
+        → Trimming T low frame old (set places (suc (t .last)) to) (suc j) (record { last = suc (t .last); peak = t .peak; floor = t .floor; bar = min (t .bar) (t .floor + (frame - low)) }) (aheadBy T old low (suc j))
     between-next barred floored =
         let ahead-peak : (r : ℕ) → aheadBy T (set places (suc (t .last)) to) r (t .peak) ≡ aheadBy T places r (t .peak) = λ r. put-ahead T places (t .last) to fits r (t .peak) (so .order) in
         let most-peak : (r : ℕ) → mostBy T (set places (suc (t .last)) to) r (t .peak) ≡ mostBy T places r (t .peak) = λ r. put-most T places (t .last) to fits r (t .peak) (so .order) in
@@ -354,9 +354,9 @@ module _ (T : ℕ → ℕ) (grows : (m k : ℕ) → m ≤ k → T m ≤ T k) (lo
           inside = put-inside T places (t .last) to fits at up (so .inside);
           is-lead = refl;
           floored = floored;
-          barred = barred;
-          slack = so .slack;
-          top = rw (ahead-peak low) (so .top);
+          barred = omega (arith, barred, so .slack);
+          slack = omega arith;
+          top = rw (ahead-peak low) (omega (arith, so .top));
           same = after-same;
           rates = λ r l.
               rw (after-most r l, most-peak r, ahead-peak r, at-peak, straight-on r, full-on r, most-on r, lead-on)

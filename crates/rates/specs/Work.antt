@@ -66,7 +66,7 @@ pub record PlacesAt (sums : List ℕ) (frame : ℕ) (places : List ℕ) (k r : �
 -- what the next place, with the lead at it, makes of what is known: a peak, a place to be kept for now, or one with which all since the peak go
 pub record Trims (t : Trimmed) (lead slack : ℕ) (t′ : Trimmed) : Type 0 where
   pub peak : t .bar < lead → t′ ≡ record { last = t .last + 1; peak = t .last + 1; floor = lead; bar = lead }
-  pub between : lead ≤ t .bar → t .floor < lead → t′ ≡ record { last = t .last + 1; peak = t .peak; floor = t .floor; bar = t .bar }
+  pub between : lead ≤ t .bar → t .floor < lead → t′ ≡ record { last = t .last + 1; peak = t .peak; floor = t .floor; bar = min (t .bar) (t .floor + slack) }
   pub low : lead ≤ t .bar → lead ≤ t .floor → t′ ≡ record { last = t .peak + 1; peak = t .peak; floor = lead; bar = min (t .bar) (lead + slack) }
 
 -- one more than k, or k where neither frame is larger than r

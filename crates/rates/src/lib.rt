@@ -218,33 +218,33 @@ pub struct Trimmed {
     pub bar: u64,
 }
 
+// The first number where x is less than y, else the second; it has no branch to guess.
+fn pick(x: u64, y: u64, first: u64, second: u64) -> u64
+    ensures { λ r. ⌜ ((x < y → r ≡ first) × (y ≤ x → r ≡ second)) ⌝ }
+{
+    if x < y { first } else { second }
+}
+
+fn pick_place(x: u64, y: u64, first: usize, second: usize) -> usize
+    ensures { λ r. ⌜ ((x < y → r ≡ first) × (y ≤ x → r ≡ second)) ⌝ }
+{
+    if x < y { first } else { second }
+}
+
 // The next place, with the lead at it. Above the bar it is a peak. On the floor all places since the peak go: at no rate does the lead get
 // higher between them than at the peak, or further ahead in a run of its own than the largest frame alone, which is the slack.
 fn trim(t: Trimmed, lead: u64, slack: u64) -> Trimmed
-    requires { ⌜ ((t .last ≤ mostFrames) × (t .peak ≤ mostFrames)) × ((lead ≤ greatestTotal) × (slack ≤ greatestTotal)) ⌝ }
+    requires { ⌜ ((t .last ≤ mostFrames) × (t .peak ≤ mostFrames)) × ((t .floor ≤ t .bar) × ((lead ≤ greatestTotal) × (slack ≤ greatestTotal))) ⌝ }
     ensures { λ r. ⌜ Trims t lead slack r ⌝ }
 {
-    if t.bar < lead {
-        return Trimmed {
-            last: t.last + 1,
-            peak: t.last + 1,
-            floor: lead,
-            bar: lead,
-        };
-    }
-    if t.floor < lead {
-        return Trimmed {
-            last: t.last + 1,
-            peak: t.peak,
-            floor: t.floor,
-            bar: t.bar,
-        };
-    }
+    let last = pick_place(t.floor, lead, t.last, t.peak) + 1;
+    let floor = lesser(t.floor, lead);
+    let bar = lesser(t.bar, floor + slack);
     Trimmed {
-        last: t.peak + 1,
-        peak: t.peak,
-        floor: lead,
-        bar: lesser(t.bar, lead + slack),
+        last,
+        peak: pick_place(t.bar, lead, last, t.peak),
+        floor: pick(t.bar, lead, lead, floor),
+        bar: pick(t.bar, lead, lead, bar),
     }
 }
 

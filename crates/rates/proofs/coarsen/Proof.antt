@@ -165,7 +165,7 @@ trim-requires c κs =
     let M = length (sums-in i) - 1 in
     let most = most-under T (λ m. film .grows m (suc m) (omega arith)) (low-in i) M in
     let slack : c .before .before .before .before .before .over .result ≤ greatestTotal = omega (arith, c .before .before .before .before .before .over .ensures, pre .1 .1 .1 .1 .enough (low-in i) (omega arith), most, sum-fits (sums-in i) (pre .0) M) in
-    ((few, omega (arith, few, so .order)), (omega (arith, c .over2 .ensures, lead-small i, played-more i, under), slack))
+    ((few, omega (arith, few, so .order)), (omega (arith, so .floored, so .barred), (omega (arith, c .over2 .ensures, lead-small i, played-more i, under), slack)))
 
 mul-places : tie.Need-mul-places Inv-loop μ-loop
 mul-places c =

@@ -3,35 +3,79 @@ use borrow.Author.Needs.{needs}
 use Rattle.rates.proofs.trim.Statement.{statement}
 use Rattle.rates.proofs.trim.Tie as tie
 use mathlib.Core.Path.{_≡_, refl}
+use Prim.Native.Nat.{ℕ, _≤_, _<_, min}
+use native.Mathlib.Decide.{decLt}
+use Rattle.job.specs.Limits.{mostFrames}
 
-add-t5 : tie.Need-add-t5
-add-t5 c = search needs
+-- what is picked is as small as both
+picked : (x y a b r : ℕ) → (x < y → r ≡ a) → (y ≤ x → r ≡ b) → a ≤ mostFrames → b ≤ mostFrames → r ≤ mostFrames
+picked x y a b r one other h l = go (decLt x y)
+  where
+    go : Dec (x < y) → r ≤ mostFrames
+    go (yes less) = omega (arith, one less)
+    go (no ne) = omega (arith, other (omega arith))
 
-add-t6 : tie.Need-add-t6
-add-t6 c = search needs
+lesser-is : (a b : ℕ) → a ≤ b → min a b ≡ a
+lesser-is a b h = omega arith
 
-returns : tie.Need-returns
-returns c = record { peak = λ h. refl; between = λ h l. absurd (omega arith); low = λ h l. absurd (omega arith) }
+lesser-other : (a b : ℕ) → b ≤ a → min a b ≡ b
+lesser-other a b h = omega arith
 
-add-t7 : tie.Need-add-t7
-add-t7 c = search needs
 
-returns-2 : tie.Need-returns-2
-returns-2 c = record { peak = λ h. absurd (omega arith); between = λ h l. refl; low = λ h l. absurd (omega arith) }
+pick-place-requires : tie.Need-pick-place-requires
+pick-place-requires c κs = search needs
 
-add-t8 : tie.Need-add-t8
-add-t8 c = search needs
-
-add-lesser : tie.Need-add-lesser
-add-lesser c = search needs
+add-last : tie.Need-add-last
+add-last c =
+    let start = c .before in
+    let t = start .args .t in
+    omega (arith, picked (t .floor) (start .args .lead) (t .last) (t .peak) (c .pick-place .result) (c .pick-place .ensures .0) (c .pick-place .ensures .1) (start .pre .0 .0) (start .pre .0 .1))
 
 lesser-requires : tie.Need-lesser-requires
 lesser-requires c κs = search needs
 
-returns-3 : tie.Need-returns-3
-returns-3 c = record { peak = λ h. absurd (omega arith); between = λ h l. absurd (omega arith); low = λ h l. rw (c .lesser .ensures) refl }
+add-lesser : tie.Need-add-lesser
+add-lesser c = search needs
+
+lesser-requires-2 : tie.Need-lesser-requires-2
+lesser-requires-2 c κs = search needs
+
+pick-place-requires-2 : tie.Need-pick-place-requires-2
+pick-place-requires-2 c κs = search needs
+
+pick-requires : tie.Need-pick-requires
+pick-requires c κs = search needs
+
+pick-requires-2 : tie.Need-pick-requires-2
+pick-requires-2 c κs = search needs
+
+returns : tie.Need-returns
+returns c =
+    let start = c .before .before .before .before .before .before in
+    let t = start .args .t in
+    let lead = start .args .lead in
+    let onto = c .before .before .before .before .before .pick-place .ensures in
+    let low = c .before .before .before .before .lesser .ensures in
+    let bar = c .before .before .before .lesser2 .ensures in
+    let place = c .before .before .pick-place2 .ensures in
+    let floor = c .before .pick .ensures in
+    let top = c .pick2 .ensures in
+    record {
+      peak = λ h. rw (place .0 h, floor .0 h, top .0 h, onto .0 (omega (arith, start .pre .1 .0))) refl;
+      between = λ h l. rw (place .1 h, floor .1 h, top .1 h, bar, low, onto .0 l, lesser-is (t .floor) lead (omega arith)) refl;
+      low = λ h l. rw (place .1 h, floor .1 h, top .1 h, bar, low, onto .1 l, lesser-other (t .floor) lead l) refl;
+    }
 
 pub trim-spec : {M : Type 1} → statement M
 trim-spec =
     tie.close
-    (tie.spec add-t5 add-t6 returns add-t7 returns-2 add-t8 add-lesser lesser-requires returns-3)
+    (tie.spec
+    pick-place-requires
+    add-last
+    lesser-requires
+    add-lesser
+    lesser-requires-2
+    pick-place-requires-2
+    pick-requires
+    pick-requires-2
+    returns)

@@ -332,6 +332,62 @@ pub fn most_frames(rng: &mut Rng) -> Vec<Case> {
     cases
 }
 
+/// A film of one sort: scenes of groups, large and small frames in turn, runs between
+/// frames of 0, or scenes alone; with noise on every frame.
+fn film(count: usize, rng: &mut Rng) -> Vec<u32> {
+    let sort = rng.below(4);
+    let size = rng.pick(&[40, 5_000, 1_900_000]);
+    let mut weight = rng.within(1..=5);
+    let mut frames = Vec::with_capacity(count);
+    for m in 0..count {
+        if rng.one_in(24) {
+            weight = rng.within(1..=5);
+        }
+        let share = match sort {
+            0 if m % 12 == 0 => 6,
+            0 if m % 3 == 0 => 3,
+            1 if m % 2 == 0 => 6,
+            2 => 4 * u64::from(weight == 5),
+            _ => 1,
+        };
+        frames.push((size * share * weight * rng.within(60..=140) / 500) as u32);
+    }
+    frames
+}
+
+/// A job with such a film, and rates about its mean frame.
+fn filmed(nodes: usize, count: usize, rng: &mut Rng) -> Case {
+    let parents = any_parents(nodes, rng);
+    let frames = film(count, rng);
+    let total: u64 = frames.iter().map(|&frame| u64::from(frame)).sum();
+    let mean = total / count as u64;
+    let least = rng.pick(&[mean / 2, mean + mean / 32, 2 * mean]);
+    let mut rates = differing(least, nodes - 1, rng);
+    if rng.one_in(3) {
+        // Near each other.
+        rates.fill_with(|| rng.within(least..=least + least / 16 + 1));
+    }
+    Case::job(made(&parents, &rates, frames, rng))
+}
+
+/// Random jobs with some hundred frames, of any number of nodes.
+pub fn films(_: u64, rng: &mut Rng) -> Case {
+    let nodes = rng.within(2..=MOST_NODES as u64) as usize;
+    let count = rng.within(20..=500) as usize;
+    filmed(nodes, count, rng)
+}
+
+/// Films as long as each of the library's shorter rooms holds, and one frame longer.
+pub fn rooms(rng: &mut Rng) -> Vec<Case> {
+    let mut cases = Vec::new();
+    for count in [4_096, 4_097, 16_384, 16_385] {
+        for nodes in [2, 9, MOST_NODES] {
+            cases.extend((0..4).map(|_| filmed(nodes, count, rng)));
+        }
+    }
+    cases
+}
+
 /// The most frames on few nodes, memories one short and one over.
 fn few_links(rng: &mut Rng) -> Vec<Case> {
     let mut cases = Vec::new();

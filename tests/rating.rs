@@ -25,17 +25,19 @@ const NO_NUMBER: usize = 12;
 /// A sort of case whose number of jobs is fixed.
 type Fixed = (&'static str, fn(&mut Rng) -> Vec<Case>);
 
-const FIXED: [Fixed; 5] = [
+const FIXED: [Fixed; 6] = [
     ("examples", rated::examples),
     ("every tiny job", rated::every_tiny),
     ("extremes", rated::extremes),
     ("64 nodes", rated::most_nodes),
     ("65,536 frames", rated::most_frames),
+    ("rooms", rated::rooms),
 ];
 
-const RANDOM: [Random<Case>; 5] = [
+const RANDOM: [Random<Case>; 6] = [
     ("tiny", 60, rated::tiny),
-    ("small", 640, rated::small),
+    ("small", 620, rated::small),
+    ("films", 20, rated::films),
     ("borderline", 80, rated::borderline),
     ("faults", 190, rated::faulty),
     ("wrong lengths", 30, rated::wrong_length),

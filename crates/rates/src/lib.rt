@@ -298,7 +298,14 @@ fn due(done: u64, a: u64) -> u64
 }
 
 // Places thinned out for rates from `low` on, if they aren't.
-fn thin(sums: &[u64], low: u64, done: u64, largest: u64, places: &mut [usize], count: usize) -> usize
+fn thin(
+    sums: &[u64],
+    low: u64,
+    done: u64,
+    largest: u64,
+    places: &mut [usize],
+    count: usize,
+) -> usize
     requires { ⌜ HoldsSums (now sums) × ((length (now sums) ≤ mostFrames + 1) × ((low ≤ greatestRate) × ((length (now sums) ≤ length (now places)) × Places (sumsIn (now sums)) low largest (length (now sums) - 1) (now places) count))) ⌝ }
     ensures { λ k. ⌜ Places (sumsIn (now (sums .entry))) low largest (length (now (sums .entry)) - 1) (now (places .exit)) k ⌝ }
 {

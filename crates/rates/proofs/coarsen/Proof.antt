@@ -104,8 +104,7 @@ module _ (i : In) (lead : ℕ) (t : Trimmed) (is : lead ≡ i .before .loop .lea
       let sums = sums-in i in
       let grows = film-of sums (start .pre .0) .grows in
       let lead-is : lead ≡ l .lead + (sumsIn sums (next-place i) - sumsIn sums (l .at)) - low-in i * (next-place i - l .at) = omega (arith, is, sum-is i .0, sum-is i .1) in
-      let cut = rw (i .before .before .over .ensures) at how in
-      (
+      let cut = rw (i .before .before .over .ensures) at how in (
         trim-on (sumsIn sums) grows (low-in i) (start .args .largest) _ (old-in i) (l .places) (start .args .count) (l .j) (l .t) (l .lead) (l .at) (next-place i) lead t (start .pre .1 .1 .1 .1) (l .inv .0) (i .loop-test .taken) (l .inv .1 .1 .0 .0) (next-is i) (room i) (l .inv .1 .1 .1 .1 .0) (l .inv .1 .1 .1 .1 .1) lead-is cut,
         trim-rest (sumsIn sums) grows (low-in i) (start .args .largest) _ (old-in i) (l .places) (start .args .count) (l .j) (l .t) (l .lead) (l .at) (next-place i) lead t (start .pre .1 .1 .1 .1) (l .inv .0) (i .loop-test .taken) (l .inv .1 .1 .0 .0) (next-is i) (room i) (l .inv .1 .1 .1 .1 .0) (l .inv .1 .1 .1 .1 .1) lead-is cut,
       )

@@ -193,7 +193,7 @@ returns c =
     let count = start .args .count in
     let all : l .j ≡ count = omega (arith, end .loop-test .left, l .inv .1 .0) in
     let found : (q x : ℕ) (lead : Lead) → PlacesAt sums (start .args .largest) (start .args .places .now) count q → LeadBy (sumsIn sums) (start .args .places .now) q (l .j - 1) lead
-        → x ≡ max (lead .most) (start .args .largest - q) → x ≡ needOf sums q =
+    → x ≡ max (lead .most) (start .args .largest - q) → x ≡ needOf sums q =
     λ q x lead right by is. lead-all (sumsIn sums) (start .args .largest) (length sums - 1) (start .args .places .now) count q lead x (right .passes) (rw all at by) is in
     rw (
       found (r .a) _ (l .a) (start .pre .1 .1 .0) (inv .0) (c .before .before .before .or-alone .ensures),

@@ -21,7 +21,6 @@ lesser-is a b h = omega arith
 lesser-other : (a b : ℕ) → b ≤ a → min a b ≡ b
 lesser-other a b h = omega arith
 
-
 pick-place-requires : tie.Need-pick-place-requires
 pick-place-requires c κs = search needs
 

@@ -20,7 +20,7 @@ use Rattle.job.specs.Bytes.{perNode}
 use Rattle.job.proofs.TreeLaws.{link-is, link-in, below-in}
 use Rattle.job.proofs.ReadLaws.{zeros-are}
 use Rattle.rates.specs.Rates.{atOrBelow, floorRate, leastRate}
-use Rattle.rates.specs.Work.{FloorsOf, NextFour, chosen, fourOf, HandedOut, NeedsBelow, needOf, needsOf}
+use Rattle.rates.specs.Work.{FloorsOf, Top, NextFour, chosen, fourOf, HandedOut, NeedsBelow, needOf, needsOf}
 use Rattle.rates.specs.declared.Four.{Four}
 use Rattle.rates.proofs.WorkLaws.{least-rate-fits, floor-rate-fits}
 
@@ -75,9 +75,9 @@ module _ (t : Tree) (tree : TreeWithin t) where
 
 -- ---- the next four rates, and the needs at them
 
-pub rates-rise : (floors : List ℕ) (y : ℕ) (r : Four) → y ≤ greatestRate → NextFour floors y r
-    → (y ≤ r .a) × ((r .a ≤ r .b) × ((r .b ≤ r .c) × ((r .c ≤ r .d) × (r .d ≤ greatestRate))))
-rates-rise floors y r h next = (
+pub rates-rise : (floors : List ℕ) (y top : ℕ) (r : Four) → y ≤ top → NextFour floors y top r
+    → (y ≤ r .a) × ((r .a ≤ r .b) × ((r .b ≤ r .c) × ((r .c ≤ r .d) × (r .d ≤ top))))
+rates-rise floors y top r h next = (
   omega (arith, next .a .from),
   (omega (arith, next .a .to, next .b .from), (omega (arith, next .b .to, next .c .from), (omega (arith, next .c .to, next .d .from), next .d .to))),
 )
@@ -126,9 +126,9 @@ module _ (t : Tree) (tree : TreeWithin t) (sums : List ℕ) where
       nothing i (no h) = getD-tab-past (λ v. 0) mostNodes i (omega arith)
 
   -- a rate from y on that is no more than the last of the four is one of them
-  pub needs-more : (floors old new : List ℕ) (y : ℕ) (r : Four) → FloorsOf t (t .n) floors → NextFour floors y r → NeedsBelow t sums y old
+  pub needs-more : (floors old new : List ℕ) (y top : ℕ) (r : Four) → FloorsOf t (t .n) floors → NextFour floors y top r → NeedsBelow t sums y old
       → HandedOut (t .n) floors r (fourOf (needOf sums) r) old new → NeedsBelow t sums (r .d + 1) new
-  needs-more floors old new y r all next so given =
+  needs-more floors old new y top r all next so given =
       record {
         long = given .long;
         found = found-at;
@@ -165,11 +165,11 @@ module _ (t : Tree) (tree : TreeWithin t) (sums : List ℕ) where
                   absurd (omega (arith, gd, is, l))
 
   -- below a rate that is higher than any they are all
-  pub needs-all : (needs : List ℕ) (y : ℕ) → greatestRate < y → NeedsBelow t sums y needs → needs ≡ needsOf t sums
+  pub needs-all : (floors needs : List ℕ) (y top : ℕ) → FloorsOf t (t .n) floors → Top (t .n) floors (leastRate t) top → top < y → NeedsBelow t sums y needs → needs ≡ needsOf t sums
   unfolding perNode
-  needs-all needs y h so =
+  needs-all floors needs y top all high h so =
       tab-of-list needs mostNodes (so .long)
       ∙ tab-cong (λ i. getD needs i 0) (perNode (t .n) (λ i. needOf sums (floorRate t i))) mostNodes
       (λ i l. ⊎-elim
-      (λ (e : link (t .n) i ≡ true). rw e (so .found i e (omega (arith, floor-rate-fits t tree i e))))
+      (λ (e : link (t .n) i ≡ true). rw e (so .found i e (omega (arith, all .right i e, high .above i e))))
       (λ (e : link (t .n) i ≡ false). rw e (so .none i e)) (true-or-false (link (t .n) i)))

@@ -7,6 +7,7 @@ pub mod MarkLaws
 pub mod NeedLaws
 pub mod PlaceLaws
 pub mod TrimLaws
+pub mod LiftLaws
 pub mod WalkLaws
 pub mod WorkLaws
 pub mod FloorLaws

@@ -3,11 +3,23 @@ use mathlib.Core.List.{List}
 use mathlib.Core.Path.{_≡_, refl, sym, _∙_}
 use Prim.Native.Nat.{ℕ, zero, suc, _+_, _-_, _*_, _≤_, _<_, max}
 use native.Mathlib.Omega.{arith}
-use lib.ListN.{getD}
-use Rattle.rates.specs.Work.{ahead, mostAhead, furtherOf, aheadBy, mostBy, LeadBy, Places}
+use native.Mathlib.Decide.{ℕ-discrete, decLt}
+use lib.ListN.{length, getD, set}
+use lib.Seq.{getD-set-same, getD-set-other}
+use Rattle.job.specs.Limits.{mostFrames, greatestTotal}
+use Rattle.rates.specs.Work.{ahead, mostAhead, furtherOf, aheadBy, mostBy, LeadBy, SpotAt, onwardOf, Track, Places, Coarser, Raised}
 use Rattle.rates.specs.declared.Lead.{Lead}
+use Rattle.rates.specs.declared.Spot.{Spot}
 use Rattle.rates.proofs.MarkLaws.{Marks}
 use Rattle.rates.proofs.NeedLaws.{stepped, marks-higher}
+
+-- what is picked of two places is as small as both
+pub picked : (x y a b r : ℕ) → (x < y → r ≡ a) × (y ≤ x → r ≡ b) → a ≤ mostFrames → b ≤ mostFrames → r ≤ mostFrames
+picked x y a b r (one, other) h l = go (decLt x y)
+  where
+    go : Dec (x < y) → r ≤ mostFrames
+    go (yes less) = omega (arith, one less)
+    go (no ne) = omega (arith, other (omega arith))
 
 -- a rate's product over some slots is that of a lower rate and, at least, by how much the rate is higher
 pub times-higher : (low r slots : ℕ) → low ≤ r → 0 < slots → low * slots + (r - low) ≤ r * slots
@@ -18,6 +30,14 @@ times-higher low r slots h p =
   where
     more : (d n : ℕ) → low * suc n + d ≤ (low + d) * suc n
     more d n = omega arith
+
+pub times-split : (r p at to : ℕ) → p ≤ at → at ≤ to → r * (to - p) ≡ r * (at - p) + r * (to - at)
+times-split r p at to h l =
+    let e : to - p ≡ (at - p) + (to - at) = omega arith in
+    rw e (spread (at - p) (to - at))
+  where
+    spread : (x y : ℕ) → r * (x + y) ≡ r * x + r * y
+    spread x y = omega arith
 
 module _ (T : ℕ → ℕ) where
   -- a pass looks at the places up to its last alone
@@ -56,17 +76,90 @@ module _ (T : ℕ → ℕ) where
   unfolding aheadBy
   ahead-next r p j = refl
 
--- a higher rate can take the same places
-pub places-higher : (T : ℕ → ℕ) (low r frame M : ℕ) (places : List ℕ) (k : ℕ) → low ≤ r → Places T low frame M places k → Places T r frame M places k
-places-higher T low r frame M places k h so =
+  pub most-next : (r : ℕ) (p : List ℕ) (j : ℕ) → mostBy T p r (suc j) ≡ max (mostBy T p r j) (aheadBy T p r (suc j))
+  unfolding mostBy
+  most-next r p j = refl
+
+-- how far ahead at slot `to`, by one step from place v
+abbrev pub straightTo : (ℕ → ℕ) → List ℕ → ℕ → ℕ → ℕ → ℕ
+straightTo T places r v to = aheadBy T places r v + (T to - T (getD places v 0)) - r * (to - getD places v 0)
+
+-- ---- a place put after place v
+
+module _ (T : ℕ → ℕ) (places : List ℕ) (v to : ℕ) (room : suc v < length places) where
+  pub put-here : getD (set places (suc v) to) (suc v) 0 ≡ to
+  put-here = getD-set-same places (suc v) to 0 room
+
+  pub put-before : (u : ℕ) → u ≤ v → getD (set places (suc v) to) u 0 ≡ getD places u 0
+  put-before u h = getD-set-other places (suc v) u to 0 (λ e. omega arith)
+
+  pub put-ahead : (r u : ℕ) → u ≤ v → aheadBy T (set places (suc v) to) r u ≡ aheadBy T places r u
+  put-ahead r u h = ahead-same T r (set places (suc v) to) places u (λ x l. put-before x (omega arith))
+
+  pub put-most : (r u : ℕ) → u ≤ v → mostBy T (set places (suc v) to) r u ≡ mostBy T places r u
+  put-most r u h = most-same T r (set places (suc v) to) places u (λ x l. put-before x (omega arith))
+
+  pub put-ahead-here : (r : ℕ) → aheadBy T (set places (suc v) to) r (suc v) ≡ straightTo T places r v to
+  unfolding aheadBy
+  put-ahead-here r = rw (put-here, put-before v (omega arith), put-ahead r v (omega arith)) refl
+
+  pub put-most-here : (r : ℕ) → mostBy T (set places (suc v) to) r (suc v) ≡ max (mostBy T places r v) (straightTo T places r v to)
+  unfolding mostBy
+  put-most-here r = rw (put-ahead-here r, put-most r v (omega arith)) refl
+
+  pub put-rising : (at : ℕ) → at < to → getD places v 0 ≤ at → ((u : ℕ) → u < v → getD places u 0 < getD places (suc u) 0)
+      → (u : ℕ) → u < suc v → getD (set places (suc v) to) u 0 < getD (set places (suc v) to) (suc u) 0
+  put-rising at up under rising u h = go (ℕ-discrete u v)
+    where
+      go : Dec (u ≡ v) → getD (set places (suc v) to) u 0 < getD (set places (suc v) to) (suc u) 0
+      go (yes e) = rw e (omega (arith, put-here, put-before v (omega arith)))
+      go (no ne) = omega (arith, put-before u (omega arith), put-before (suc u) (omega arith), rising u (omega arith))
+
+  pub put-inside : (at : ℕ) → at < to → ((u : ℕ) → u ≤ v → getD places u 0 ≤ at) → (u : ℕ) → u ≤ suc v → getD (set places (suc v) to) u 0 ≤ to
+  put-inside at up inside u h = go (ℕ-discrete u (suc v))
+    where
+      go : Dec (u ≡ suc v) → getD (set places (suc v) to) u 0 ≤ to
+      go (yes e) = rw e (omega (arith, put-here))
+      go (no ne) = omega (arith, put-before u (omega arith), inside u (omega arith))
+
+-- ---- a turn of a pass
+
+pub spot-start : (T : ℕ → ℕ) (places : List ℕ) (r : ℕ) → getD places 0 0 ≡ 0 → T 0 ≡ 0 → SpotAt T places r 0 (record { at = 0; sum = 0; lead = 0 })
+unfolding aheadBy
+spot-start T places r z none = record { here = sym z; played = sym none; ahead = refl }
+
+pub spot-next : (T : ℕ → ℕ) (places : List ℕ) (r j to : ℕ) (s s′ : Spot) → 0 < j → to ≡ getD places j 0 → SpotAt T places r (j - 1) s → s′ ≡ onwardOf T to r s → SpotAt T places r j s′
+spot-next T places r j to s s′ some next so is =
+    let this : suc (j - 1) ≡ j = omega arith in
+    rw is (record { here = next; played = refl; ahead = rw (next, so .here, so .ahead) (sym (rw this at (ahead-next T r places (j - 1)))) })
+
+-- places left of all, up to the last
+pub left-track : (M : ℕ) (old places : List ℕ) (count last : ℕ) → Track M old count → getD places 0 0 ≡ 0 → last ≤ count - 1 → ((u : ℕ) → u ≤ last → getD places u 0 ≤ getD old (count - 1) 0)
+    → ((u : ℕ) → u < last → getD places u 0 < getD places (suc u) 0) → Track M places (last + 1)
+left-track M old places count last was starts few inside rising =
     record {
-      some-place = so .some-place;
-      few = so .few;
-      starts = so .starts;
-      inside = so .inside;
-      rising = so .rising;
-      enough = λ x l. so .enough x (omega arith);
+      some-place = omega arith;
+      few = omega (arith, was .some-place, was .few);
+      starts = starts;
+      inside = λ j h. omega (arith, inside j (omega arith), was .inside (count - 1) (omega (arith, was .some-place)));
+      rising = λ j h. rising j (omega arith);
     }
+
+-- the same places for fewer rates
+pub places-within : (T : ℕ → ℕ) (low high low′ high′ frame M : ℕ) (places : List ℕ) (k : ℕ) → low ≤ low′ → high′ ≤ high → Places T low high frame M places k → Places T low′ high′ frame M places k
+places-within T low high low′ high′ frame M places k h l so =
+    record { track = so .track; small = so .small; enough = λ r a b. so .enough r (omega arith) (omega arith) }
+
+-- and other places with which as much is found
+pub places-coarser : (T : ℕ → ℕ) (low high frame M : ℕ) (old : List ℕ) (k : ℕ) (new : List ℕ) (k′ : ℕ) → Places T low high frame M old k → Coarser T low frame M old k new k′
+    → Places T low high frame M new k′
+places-coarser T low high frame M old k new k′ was so =
+    record { track = so .track; small = was .small; enough = λ r a b. so .same r a ∙ was .enough r a b }
+
+pub places-raised : (T : ℕ → ℕ) (low high frame M : ℕ) (old : List ℕ) (k : ℕ) (new : List ℕ) (k′ : ℕ) → Places T low high frame M old k → Raised T high M old k new k′
+    → Places T low high frame M new k′
+places-raised T low high frame M old k new k′ was so =
+    record { track = so .track; small = was .small; enough = λ r a b. rw (so .same r b) (was .enough r a b) }
 
 -- a lead at the first place, and at the next one
 pub lead-start : (T : ℕ → ℕ) (places : List ℕ) (r : ℕ) → LeadBy T places r 0 (record { ahead = 0; most = 0 })
@@ -87,9 +180,9 @@ lead-on T places r j at sum next p p′ some here before-it after so is =
     rw (is, back, before-it, after, here) (rw this at (lead-next T places r (j - 1) p so))
 
 -- and what has been found at the last place
-pub lead-all : (T : ℕ → ℕ) (frame M : ℕ) (places : List ℕ) (k r : ℕ) (p : Lead) (x : ℕ) → Places T r frame M places k → LeadBy T places r (k - 1) p → x ≡ max (p .most) (frame - r)
+pub lead-all : (T : ℕ → ℕ) (frame M : ℕ) (places : List ℕ) (k r : ℕ) (p : Lead) (x : ℕ) → Places T r r frame M places k → LeadBy T places r (k - 1) p → x ≡ max (p .most) (frame - r)
     → x ≡ mostAhead T r M
-lead-all T frame M places k r p x all so is = is ∙ rw (so .so-far) (all .enough r (omega arith))
+lead-all T frame M places k r p x all so is = is ∙ rw (so .so-far) (all .enough r (omega arith) (omega arith))
 
 module _ (T : ℕ → ℕ) (grows : (m k : ℕ) → m ≤ k → T m ≤ T k) where
   -- a lead is no more than is played
@@ -99,6 +192,29 @@ module _ (T : ℕ → ℕ) (grows : (m k : ℕ) → m ≤ k → T m ≤ T k) whe
   ahead-played r p (suc j) rising =
       let up = rising j (omega arith) in
       omega (arith, ahead-played r p j (λ u l. rising u (omega arith)), grows (getD p j 0) (getD p (suc j) 0) (omega arith))
+
+  -- what a turn of a pass over old places knows, where those after place j are still there
+  pub record Turn (M : ℕ) (old places : List ℕ) (j : ℕ) (s : Spot) : Type 0 where
+    pub next : getD places j 0 ≡ getD old j 0
+    pub forward : s .at < getD places j 0
+    pub inside : getD places j 0 ≤ M
+    pub few : j ≤ M
+    pub under : s .lead ≤ s .sum
+
+  pub turn : (M : ℕ) (old places : List ℕ) (count j r : ℕ) (s : Spot) → Track M old count → 0 < j → j < count → ((u : ℕ) → j ≤ u → getD places u 0 ≡ getD old u 0)
+      → SpotAt T old r (j - 1) s → Turn M old places j s
+  turn M old places count j r s was some more rest so =
+      let this : suc (j - 1) ≡ j = omega arith in
+      let next = rest j (omega arith) in
+      let up = rw this at (was .rising (j - 1) (omega arith)) in
+      let played = ahead-played r old (j - 1) (λ u h. was .rising u (omega arith)) in
+      record {
+        next = next;
+        forward = omega (arith, so .here, up, next);
+        inside = omega (arith, next, was .inside j more);
+        few = omega (arith, was .few);
+        under = omega (arith, so .ahead, so .played, rw (sym (so .here)) at played);
+      }
 
   -- ---- places at which no lead is missed
 
@@ -119,13 +235,17 @@ module _ (T : ℕ → ℕ) (grows : (m k : ℕ) → m ≤ k → T m ≤ T k) whe
         rw (ih .so-much) (sym (on .so-much)) in
         record { so-much = same; so-far = rw (same, ih .so-far) (sym (on .so-far)) }
 
-    pub marks-places : (frame : ℕ) → ((r : ℕ) → frame - r ≤ mostAhead T r M) → Places T low frame M places k
-    marks-places frame least =
+    pub marks-places : (high frame : ℕ) → frame ≤ greatestTotal → ((r : ℕ) → frame - r ≤ mostAhead T r M) → Places T low high frame M places k
+    marks-places high frame small least =
         record {
-          some-place = marks .some-place;
-          few = marks .few;
-          starts = marks .starts;
-          inside = marks .inside;
-          rising = λ j h. marks .steps j h .0;
-          enough = λ r h. omega (arith, exact r h (k - 1) (omega (arith, marks .some-place)) .so-far, rw (marks .ends) at (exact r h (k - 1) (omega (arith, marks .some-place)) .so-far), least r);
+          track =
+              record {
+                some-place = marks .some-place;
+                few = marks .few;
+                starts = marks .starts;
+                inside = marks .inside;
+                rising = λ j h. marks .steps j h .0;
+              };
+          small = small;
+          enough = λ r h l. let last = exact r h (k - 1) (omega (arith, marks .some-place)) .so-far in omega (arith, rw (marks .ends) at last, least r);
         }

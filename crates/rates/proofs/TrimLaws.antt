@@ -8,10 +8,10 @@ use native.Mathlib.Omega.{arith}
 use native.Mathlib.Nat.{mul-le-mul}
 use native.Mathlib.Decide.{ℕ-discrete, decLt}
 use lib.ListN.{length, getD, set}
-use lib.Seq.{getD-set-same, getD-set-other}
-use Rattle.rates.specs.Work.{mostAhead, aheadBy, mostBy, Places, Trims}
+use lib.Seq.{getD-set-other}
+use Rattle.rates.specs.Work.{aheadBy, mostBy, Track, Coarser, Trims}
 use Rattle.rates.specs.declared.Trimmed.{Trimmed}
-use Rattle.rates.proofs.PlaceLaws.{times-higher, ahead-same, most-same, most-over, ahead-next, ahead-higher}
+use Rattle.rates.proofs.PlaceLaws.{left-track, times-split, straightTo, put-here, put-before, put-ahead, put-most, put-ahead-here, put-most-here, put-rising, put-inside, times-higher, most-over, ahead-next, ahead-higher}
 
 -- ---- numbers
 
@@ -146,10 +146,6 @@ module _ (full lead d slack peak top played taken less gap : ℕ) (lower : full 
 
 -- ---- places
 
--- how far ahead at slot `to`, by one step from place v
-abbrev pub straightTo : (ℕ → ℕ) → List ℕ → ℕ → ℕ → ℕ → ℕ
-straightTo T places r v to = aheadBy T places r v + (T to - T (getD places v 0)) - r * (to - getD places v 0)
-
 -- after place j of the old ones, where so many are left
 pub record Trimming (T : ℕ → ℕ) (low frame : ℕ) (old places : List ℕ) (j : ℕ) (t : Trimmed) (lead : ℕ) : Type 0 where
   pub starts : getD places 0 0 ≡ 0
@@ -185,54 +181,6 @@ trim-start T low frame old z =
       same = λ r h. refl;
       rates = λ r h. record { over = omega arith; under = omega arith; kept = omega arith; from-peak = omega arith; near = omega arith; within = omega arith };
     }
-
--- a place put after place v
-module _ (T : ℕ → ℕ) (places : List ℕ) (v to : ℕ) (room : suc v < length places) where
-  abbrev next : List ℕ
-  next = set places (suc v) to
-
-  put-here : getD (set places (suc v) to) (suc v) 0 ≡ to
-  put-here = getD-set-same places (suc v) to 0 room
-
-  put-before : (u : ℕ) → u ≤ v → getD (set places (suc v) to) u 0 ≡ getD places u 0
-  put-before u h = getD-set-other places (suc v) u to 0 (λ e. omega arith)
-
-  put-ahead : (r u : ℕ) → u ≤ v → aheadBy T (set places (suc v) to) r u ≡ aheadBy T places r u
-  put-ahead r u h = ahead-same T r (set places (suc v) to) places u (λ x l. put-before x (omega arith))
-
-  put-most : (r u : ℕ) → u ≤ v → mostBy T (set places (suc v) to) r u ≡ mostBy T places r u
-  put-most r u h = most-same T r (set places (suc v) to) places u (λ x l. put-before x (omega arith))
-
-  put-ahead-here : (r : ℕ) → aheadBy T (set places (suc v) to) r (suc v) ≡ straightTo T places r v to
-  unfolding aheadBy
-  put-ahead-here r = rw (put-here, put-before v (omega arith), put-ahead r v (omega arith)) refl
-
-  put-most-here : (r : ℕ) → mostBy T (set places (suc v) to) r (suc v) ≡ max (mostBy T places r v) (straightTo T places r v to)
-  unfolding mostBy
-  put-most-here r = rw (put-ahead-here r, put-most r v (omega arith)) refl
-
-  put-rising : (at : ℕ) → at < to → getD places v 0 ≤ at → ((u : ℕ) → u < v → getD places u 0 < getD places (suc u) 0)
-      → (u : ℕ) → u < suc v → getD (set places (suc v) to) u 0 < getD (set places (suc v) to) (suc u) 0
-  put-rising at up under rising u h = go (ℕ-discrete u v)
-    where
-      go : Dec (u ≡ v) → getD (set places (suc v) to) u 0 < getD (set places (suc v) to) (suc u) 0
-      go (yes e) = rw e (omega (arith, put-here, put-before v (omega arith)))
-      go (no ne) = omega (arith, put-before u (omega arith), put-before (suc u) (omega arith), rising u (omega arith))
-
-  put-inside : (at : ℕ) → at < to → ((u : ℕ) → u ≤ v → getD places u 0 ≤ at) → (u : ℕ) → u ≤ suc v → getD (set places (suc v) to) u 0 ≤ to
-  put-inside at up inside u h = go (ℕ-discrete u (suc v))
-    where
-      go : Dec (u ≡ suc v) → getD (set places (suc v) to) u 0 ≤ to
-      go (yes e) = rw e (omega (arith, put-here))
-      go (no ne) = omega (arith, put-before u (omega arith), inside u (omega arith))
-
-times-split : (r p at to : ℕ) → p ≤ at → at ≤ to → r * (to - p) ≡ r * (at - p) + r * (to - at)
-times-split r p at to h l =
-    let e : to - p ≡ (at - p) + (to - at) = omega arith in
-    rw e (spread (at - p) (to - at))
-  where
-    spread : (x y : ℕ) → r * (x + y) ≡ r * x + r * y
-    spread x y = omega arith
 
 module _ (T : ℕ → ℕ) (grows : (m k : ℕ) → m ≤ k → T m ≤ T k) (low frame : ℕ) (old places : List ℕ) (j : ℕ) (t : Trimmed) (lead : ℕ)
     (so : Trimming T low frame old places j t lead) (climbs : (u : ℕ) → u < suc j → getD old u 0 < getD old (suc u) 0) (room : suc j < length places) where
@@ -411,15 +359,15 @@ module _ (T : ℕ → ℕ) (grows : (m k : ℕ) → m ≤ k → T m ≤ T k) (lo
         go (no ne) (no on) = rw (how .low (omega arith) (omega arith), one (t .peak)) (low-next (omega arith) (omega arith))
 
 -- a turn of the pass over the old places, in whose room those that are left are put
-module _ (T : ℕ → ℕ) (grows : (m k : ℕ) → m ≤ k → T m ≤ T k) (low frame M : ℕ) (old places : List ℕ) (count j : ℕ) (t : Trimmed) (lead at to lead′ : ℕ) (t′ : Trimmed)
-    (was : Places T low frame M old count) (some : 0 < j) (more : j < count) (here : at ≡ getD old (j - 1) 0) (next : to ≡ getD old j 0) (room : j < length places)
+module _ (T : ℕ → ℕ) (grows : (m k : ℕ) → m ≤ k → T m ≤ T k) (low frame M : ℕ) (old places : List ℕ) (count j : ℕ) (t : Trimmed) (lead to lead′ : ℕ) (t′ : Trimmed)
+    (was : Track M old count) (some : 0 < j) (more : j < count) (next : to ≡ getD old j 0) (room : j < length places)
     (rest : (u : ℕ) → j ≤ u → getD places u 0 ≡ getD old u 0) (so : Trimming T low frame old places (j - 1) t lead)
-    (is : lead′ ≡ lead + (T to - T at) - low * (to - at)) (how : Trims t lead′ (frame - low) t′) where
+    (is : lead′ ≡ aheadBy T old low j) (how : Trims t lead′ (frame - low) t′) where
   this : suc (j - 1) ≡ j
   this = omega arith
 
   lead-is : lead′ ≡ aheadBy T old low (suc (j - 1))
-  lead-is = is ∙ rw (here, next, so .is-lead) (rw this at (sym (ahead-next T low old (j - 1)))) ∙ ap (aheadBy T old low) (sym this)
+  lead-is = is ∙ ap (aheadBy T old low) (sym this)
 
   pub trim-on : Trimming T low frame old (set places (t′ .last) to) j t′ lead′
   trim-on =
@@ -430,19 +378,13 @@ module _ (T : ℕ → ℕ) (grows : (m k : ℕ) → m ≤ k → T m ≤ T k) (lo
   trim-rest u h = getD-set-other places (t′ .last) u to 0 (λ e. omega (arith, trim-on .few)) ∙ rest u (omega arith)
 
 -- all places gone through
-pub trim-all : (T : ℕ → ℕ) (low frame M : ℕ) (old places : List ℕ) (count : ℕ) (t : Trimmed) (lead : ℕ) → Places T low frame M old count
-    → Trimming T low frame old places (count - 1) t lead → Places T low frame M places (t .last + 1)
+pub trim-all : (T : ℕ → ℕ) (low frame M : ℕ) (old places : List ℕ) (count : ℕ) (t : Trimmed) (lead : ℕ) → Track M old count
+    → Trimming T low frame old places (count - 1) t lead → Coarser T low frame M old count places (t .last + 1)
 trim-all T low frame M old places count t lead was so =
     let back : t .last + 1 - 1 ≡ t .last = omega arith in
     record {
-      some-place = omega arith;
-      few = omega (arith, so .few, was .some-place, was .few);
-      starts = so .starts;
-      inside = λ j h. omega (arith, so .inside j (omega arith), was .inside (count - 1) (omega (arith, was .some-place)));
-      rising = λ j h. so .rising j (omega arith);
-      enough = λ r h.
-          let at = so .rates r h in
-          rw back (same-most _ _ _ (at .over) (at .under) ∙ was .enough r h);
+      track = left-track M old places count (t .last) was (so .starts) (so .few) (so .inside) (so .rising);
+      same = λ r h. let at = so .rates r h in rw back (same-most _ _ _ (at .over) (at .under));
     }
   where
     same-most : (x y z : ℕ) → x ≤ max y z → y ≤ max x z → max x z ≡ max y z

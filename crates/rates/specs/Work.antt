@@ -15,7 +15,9 @@ use Rattle.writing.specs.PutBack.{memoriesIn}
 use Rattle.rates.specs.Rates.{total, floorRate, leastRate, startDelay, memory}
 use Rattle.rates.specs.declared.Lead.{Lead}
 use Rattle.rates.specs.declared.Four.{Four}
+use Rattle.rates.specs.declared.Spot.{Spot}
 use Rattle.rates.specs.declared.Trimmed.{Trimmed}
+use Rattle.rates.specs.declared.Lifted.{Lifted}
 use Rattle.rates.specs.declared.Sizing.{Sizing}
 use Rattle.rates.specs.declared.Sizing.the-variants.{Refused, Sized}
 
@@ -48,26 +50,56 @@ pub record LeadBy (T : ℕ → ℕ) (places : List ℕ) (r j : ℕ) (p : Lead) :
   pub so-much : p .ahead ≡ aheadBy T places r j
   pub so-far : p .most ≡ mostBy T places r j
 
--- k places, from slot 0 on; at each rate from `low` on, a pass over them finds the most that is ahead up to slot M, or one frame alone gets as
--- far ahead
-pub record Places (T : ℕ → ℕ) (low frame M : ℕ) (places : List ℕ) (k : ℕ) : Type 0 where
+-- a spot is place j of a pass at rate r
+pub record SpotAt (T : ℕ → ℕ) (places : List ℕ) (r j : ℕ) (s : Spot) : Type 0 where
+  pub here : s .at ≡ getD places j 0
+  pub played : s .sum ≡ T (s .at)
+  pub ahead : s .lead ≡ aheadBy T places r j
+
+-- the spot at slot `to`, by one step
+abbrev pub onwardOf : (ℕ → ℕ) → ℕ → ℕ → Spot → Spot
+onwardOf T to r s = record { at = to; sum = T to; lead = s .lead + (T to - T (s .at)) - r * (to - s .at) }
+
+-- k places, from slot 0 on, up to slot M at most
+pub record Track (M : ℕ) (places : List ℕ) (k : ℕ) : Type 0 where
   pub some-place : 0 < k
   pub few : k ≤ suc M
   pub starts : getD places 0 0 ≡ 0
   pub inside : (j : ℕ) → j < k → getD places j 0 ≤ M
   pub rising : (j : ℕ) → suc j < k → getD places j 0 < getD places (suc j) 0
-  pub enough : (r : ℕ) → low ≤ r → max (mostBy T places r (k - 1)) (frame - r) ≡ mostAhead T r M
+
+-- at each rate from `low` to `high`, a pass over the places finds the most that is ahead up to slot M, or one frame alone gets as far ahead
+pub record Places (T : ℕ → ℕ) (low high frame M : ℕ) (places : List ℕ) (k : ℕ) : Type 0 where
+  pub track : Track M places k
+  pub small : frame ≤ greatestTotal
+  pub enough : (r : ℕ) → low ≤ r → r ≤ high → max (mostBy T places r (k - 1)) (frame - r) ≡ mostAhead T r M
 
 -- for rate r, over the sums T(0) to T(M)
 pub record PlacesAt (sums : List ℕ) (frame : ℕ) (places : List ℕ) (k r : ℕ) : Type 0 where
-  pub passes : Places (sumsIn sums) r frame (length sums - 1) places k
+  pub passes : Places (sumsIn sums) r r frame (length sums - 1) places k
   pub rate : r ≤ greatestRate
+
+-- other places with which as much is found at each rate from `low` on
+pub record Coarser (T : ℕ → ℕ) (low frame M : ℕ) (old : List ℕ) (k : ℕ) (new : List ℕ) (k′ : ℕ) : Type 0 where
+  pub track : Track M new k′
+  pub same : (r : ℕ) → low ≤ r → max (mostBy T new r (k′ - 1)) (frame - r) ≡ max (mostBy T old r (k - 1)) (frame - r)
+
+-- and at each rate up to `high`
+pub record Raised (T : ℕ → ℕ) (high M : ℕ) (old : List ℕ) (k : ℕ) (new : List ℕ) (k′ : ℕ) : Type 0 where
+  pub track : Track M new k′
+  pub same : (r : ℕ) → r ≤ high → mostBy T new r (k′ - 1) ≡ mostBy T old r (k - 1)
 
 -- what the next place, with the lead at it, makes of what is known: a peak, a place to be kept for now, or one with which all since the peak go
 pub record Trims (t : Trimmed) (lead slack : ℕ) (t′ : Trimmed) : Type 0 where
   pub peak : t .bar < lead → t′ ≡ record { last = t .last + 1; peak = t .last + 1; floor = lead; bar = lead }
   pub between : lead ≤ t .bar → t .floor < lead → t′ ≡ record { last = t .last + 1; peak = t .peak; floor = t .floor; bar = min (t .bar) (t .floor + slack) }
   pub low : lead ≤ t .bar → lead ≤ t .floor → t′ ≡ record { last = t .peak + 1; peak = t .peak; floor = lead; bar = min (t .bar) (lead + slack) }
+
+-- the same where dips go: a valley, a place to be kept for now, or one with which all since the valley go
+pub record Lifts (t : Lifted) (lead : ℕ) (t′ : Lifted) : Type 0 where
+  pub valley : lead ≤ t .base → t′ ≡ record { last = t .last + 1; valley = t .last + 1; base = lead; ceiling = lead }
+  pub between : t .base < lead → lead < t .ceiling → t′ ≡ record { last = t .last + 1; valley = t .valley; base = t .base; ceiling = t .ceiling }
+  pub high : t .base < lead → t .ceiling ≤ lead → t′ ≡ record { last = t .valley + 1; valley = t .valley; base = t .base; ceiling = lead }
 
 -- one more than k, or k where neither frame is larger than r
 pub record Kept (k last frame r k′ : ℕ) : Type 0 where
@@ -89,18 +121,24 @@ pub record FloorsOf (t : Tree) (n : ℕ) (floors : List ℕ) : Type 0 where
   pub least : (u : ℕ) → u < mostNodes → leastRate t ≤ getD floors u 0
   pub greatest : (u : ℕ) → u < mostNodes → getD floors u 0 ≤ greatestRate
 
--- r is the least from y on of the first u rates, and the greatest that a rate can be where none of them is
-pub record NextRate (floors : List ℕ) (u y r : ℕ) : Type 0 where
-  pub from : min y greatestRate ≤ r
-  pub to : r ≤ greatestRate
+-- no rate of a link is above the top
+pub record Top (n : ℕ) (floors : List ℕ) (least top : ℕ) : Type 0 where
+  pub from : least ≤ top
+  pub to : top ≤ greatestRate
+  pub above : (i : ℕ) → link n i ≡ true → getD floors i 0 ≤ top
+
+-- r is the least from y on of the first u rates, and the top where none of them is
+pub record NextRate (floors : List ℕ) (u y top r : ℕ) : Type 0 where
+  pub from : min y top ≤ r
+  pub to : r ≤ top
   pub least : (v : ℕ) → v < u → y ≤ getD floors v 0 → r ≤ getD floors v 0
 
 -- four such rates, each after the one before it
-pub record NextFour (floors : List ℕ) (y : ℕ) (r : Four) : Type 0 where
-  pub a : NextRate floors mostNodes y (r .a)
-  pub b : NextRate floors mostNodes (r .a + 1) (r .b)
-  pub c : NextRate floors mostNodes (r .b + 1) (r .c)
-  pub d : NextRate floors mostNodes (r .c + 1) (r .d)
+pub record NextFour (floors : List ℕ) (y top : ℕ) (r : Four) : Type 0 where
+  pub a : NextRate floors mostNodes y top (r .a)
+  pub b : NextRate floors mostNodes (r .a + 1) top (r .b)
+  pub c : NextRate floors mostNodes (r .b + 1) top (r .c)
+  pub d : NextRate floors mostNodes (r .c + 1) top (r .d)
 
 -- the number of x at which r has the rate; what there was where it hasn't
 unfoldable pub chosen : Four → Four → ℕ → ℕ → ℕ

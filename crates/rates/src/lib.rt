@@ -16,7 +16,7 @@ ghost use Rattle.job.proofs.RefusalLaws.{Accepted};
 ghost use Rattle.curves.specs.Curves.{sumsIn, HoldsSums};
 ghost use Rattle.rates.specs.Rates.{total, floorRate, leastRate, inTime};
 ghost use Rattle.rates.specs.Answer.{Sizes};
-ghost use Rattle.rates.specs.Work.{Later, furtherOf, Kept, Trims, Places, PlacesAt, needOf, fourOf, FloorsOf, NextRate, NextFour, chosen, HandedOut, needsOf, Needs, memoryBy, Worked};
+ghost use Rattle.rates.specs.Work.{Later, furtherOf, Kept, onwardOf, Trims, Lifts, Track, Places, PlacesAt, Coarser, Raised, needOf, fourOf, FloorsOf, Top, NextRate, NextFour, chosen, HandedOut, needsOf, Needs, memoryBy, Worked};
 use job::Job;
 use job::Node;
 
@@ -149,7 +149,7 @@ pub struct Marked {
 // than `low`, in which no lead grows.
 fn mark(sums: &[u64], low: u64, places: &mut [usize]) -> Marked
     requires { ⌜ HoldsSums (now sums) × ((length (now sums) ≤ mostFrames + 1) × ((low ≤ greatestRate) × (length (now sums) ≤ length (now places)))) ⌝ }
-    ensures { λ r. ⌜ Places (sumsIn (now (sums .entry))) low (r .largest) (length (now (sums .entry)) - 1) (now (places .exit)) (r .count) ⌝ }
+    ensures { λ r. ⌜ Places (sumsIn (now (sums .entry))) low greatestRate (r .largest) (length (now (sums .entry)) - 1) (now (places .exit)) (r .count) ⌝ }
 {
     // Before the first frame, as if a larger one had been there.
     let mut last = low + 1;
@@ -209,6 +209,23 @@ fn four_needs(sums: &[u64], places: &[usize], count: usize, largest: u64, r: Fou
     }
 }
 
+// A place of a pass at one rate, what is played by it and the lead there.
+pub struct Spot {
+    pub at: usize,
+    pub sum: u64,
+    pub lead: u64,
+}
+
+// The next place of the pass.
+fn onward(sums: &[u64], to: usize, r: u64, s: Spot) -> Spot
+    requires { ⌜ HoldsSums (now sums) × (((length (now sums) ≤ mostFrames + 1) × (r ≤ greatestRate)) × (((s .at < to) × (to < length (now sums))) × ((s .sum ≡ sumsIn (now sums) (s .at)) × (s .lead ≤ s .sum)))) ⌝ }
+    ensures { λ x. ⌜ x ≡ onwardOf (sumsIn (now (sums .entry))) to r s ⌝ }
+{
+    let sum = sums[to];
+    let lead = over(s.lead + (sum - s.sum), r * (to - s.at) as u64);
+    Spot { at: to, sum, lead }
+}
+
 // What `coarsen` knows at a place, of a lead at the lowest rate: the last of the places that are left so far, the peak among them, the least
 // lead since that peak, and how high the lead may get without being a new peak.
 pub struct Trimmed {
@@ -250,8 +267,8 @@ fn trim(t: Trimmed, lead: u64, slack: u64) -> Trimmed
 
 // As few places as do where no rate is less than `low`.
 fn coarsen(sums: &[u64], low: u64, largest: u64, places: &mut [usize], count: usize) -> usize
-    requires { ⌜ HoldsSums (now sums) × ((length (now sums) ≤ mostFrames + 1) × ((low ≤ greatestRate) × ((length (now sums) ≤ length (now places)) × Places (sumsIn (now sums)) low largest (length (now sums) - 1) (now places) count))) ⌝ }
-    ensures { λ k. ⌜ Places (sumsIn (now (sums .entry))) low largest (length (now (sums .entry)) - 1) (now (places .exit)) k ⌝ }
+    requires { ⌜ HoldsSums (now sums) × ((length (now sums) ≤ mostFrames + 1) × (((low ≤ greatestRate) × (largest ≤ greatestTotal)) × ((length (now sums) ≤ length (now places)) × Track (length (now sums) - 1) (now places) count))) ⌝ }
+    ensures { λ k. ⌜ Coarser (sumsIn (now (sums .entry))) low largest (length (now (sums .entry)) - 1) (now (places .entry)) count (now (places .exit)) k ⌝ }
 {
     let slack = over(largest, low);
     let mut t = Trimmed {
@@ -260,32 +277,97 @@ fn coarsen(sums: &[u64], low: u64, largest: u64, places: &mut [usize], count: us
         floor: 0,
         bar: slack,
     };
-    let mut lead = 0;
-    let mut at = 0;
-    let mut sum = 0;
+    let mut s = Spot {
+        at: 0,
+        sum: 0,
+        lead: 0,
+    };
     let mut j = 1;
     while j < count {
         let to = places[j];
-        let next = sums[to];
-        lead = over(lead + (next - sum), low * (to - at) as u64);
-        t = trim(t, lead, slack);
+        s = onward(sums, to, low, s);
+        t = trim(t, s.lead, slack);
         let last = t.last;
         places[last] = to;
-        at = to;
-        sum = next;
         j += 1;
     }
     t.last + 1
 }
 
-// The places for rates from `low` on, and the largest frame.
-fn first_places(sums: &[u64], low: u64, places: &mut [usize]) -> Marked
-    requires { ⌜ HoldsSums (now sums) × ((length (now sums) ≤ mostFrames + 1) × ((low ≤ greatestRate) × (length (now sums) ≤ length (now places)))) ⌝ }
-    ensures { λ r. ⌜ Places (sumsIn (now (sums .entry))) low (r .largest) (length (now (sums .entry)) - 1) (now (places .exit)) (r .count) ⌝ }
+// What `raise` knows at a place, of a lead at the highest rate: the last of the places that are left so far, the valley among them, the lead
+// at that valley, and the greatest lead since.
+pub struct Lifted {
+    pub last: usize,
+    pub valley: usize,
+    pub base: u64,
+    pub ceiling: u64,
+}
+
+// The next place, with the lead at it. No higher than the valley it is a valley. As high as any since the valley, all places since then go:
+// at no rate is it better to start between them than at the valley, or to end there than here.
+fn lift(t: Lifted, lead: u64) -> Lifted
+    requires { ⌜ (t .last ≤ mostFrames) × (t .valley ≤ mostFrames) ⌝ }
+    ensures { λ r. ⌜ Lifts t lead r ⌝ }
+{
+    let onto = pick_place(lead, t.ceiling, t.last, t.valley);
+    let last = pick_place(t.base, lead, onto, t.last) + 1;
+    let ceiling = greater(t.ceiling, lead);
+    Lifted {
+        last,
+        valley: pick_place(t.base, lead, t.valley, last),
+        base: lesser(t.base, lead),
+        ceiling: pick(t.base, lead, ceiling, lead),
+    }
+}
+
+// As few places as do where no rate is more than `high`.
+fn raise(sums: &[u64], high: u64, places: &mut [usize], count: usize) -> usize
+    requires { ⌜ HoldsSums (now sums) × ((length (now sums) ≤ mostFrames + 1) × ((high ≤ greatestRate) × ((length (now sums) ≤ length (now places)) × Track (length (now sums) - 1) (now places) count))) ⌝ }
+    ensures { λ k. ⌜ Raised (sumsIn (now (sums .entry))) high (length (now (sums .entry)) - 1) (now (places .entry)) count (now (places .exit)) k ⌝ }
+{
+    let mut t = Lifted {
+        last: 0,
+        valley: 0,
+        base: 0,
+        ceiling: 0,
+    };
+    let mut s = Spot {
+        at: 0,
+        sum: 0,
+        lead: 0,
+    };
+    let mut j = 1;
+    while j < count {
+        let to = places[j];
+        s = onward(sums, to, high, s);
+        t = lift(t, s.lead);
+        let last = t.last;
+        places[last] = to;
+        j += 1;
+    }
+    t.last + 1
+}
+
+// Dips left out for rates from `low` to `high`, where these are near each other: else few places would go.
+fn raise_near(sums: &[u64], low: u64, high: u64, places: &mut [usize], count: usize) -> usize
+    requires { ⌜ HoldsSums (now sums) × ((length (now sums) ≤ mostFrames + 1) × (((low ≤ greatestRate) × (high ≤ greatestRate)) × ((length (now sums) ≤ length (now places)) × Track (length (now sums) - 1) (now places) count))) ⌝ }
+    ensures { λ k. ⌜ Raised (sumsIn (now (sums .entry))) high (length (now (sums .entry)) - 1) (now (places .entry)) count (now (places .exit)) k ⌝ }
+{
+    if 2 * low < high {
+        return count;
+    }
+    raise(sums, high, places, count)
+}
+
+// The places for rates from `low` to `high`, and the largest frame.
+fn first_places(sums: &[u64], low: u64, high: u64, places: &mut [usize]) -> Marked
+    requires { ⌜ HoldsSums (now sums) × ((length (now sums) ≤ mostFrames + 1) × (((low ≤ greatestRate) × (high ≤ greatestRate)) × (length (now sums) ≤ length (now places)))) ⌝ }
+    ensures { λ r. ⌜ Places (sumsIn (now (sums .entry))) low high (r .largest) (length (now (sums .entry)) - 1) (now (places .exit)) (r .count) ⌝ }
 {
     let marked = mark(sums, low, places);
     let largest = marked.largest;
-    let count = coarsen(sums, low, largest, places, marked.count);
+    let fewer = coarsen(sums, low, largest, places, marked.count);
+    let count = raise_near(sums, low, high, places, fewer);
     Marked { count, largest }
 }
 
@@ -306,8 +388,8 @@ fn thin(
     places: &mut [usize],
     count: usize,
 ) -> usize
-    requires { ⌜ HoldsSums (now sums) × ((length (now sums) ≤ mostFrames + 1) × ((low ≤ greatestRate) × ((length (now sums) ≤ length (now places)) × Places (sumsIn (now sums)) low largest (length (now sums) - 1) (now places) count))) ⌝ }
-    ensures { λ k. ⌜ Places (sumsIn (now (sums .entry))) low largest (length (now (sums .entry)) - 1) (now (places .exit)) k ⌝ }
+    requires { ⌜ HoldsSums (now sums) × ((length (now sums) ≤ mostFrames + 1) × (((low ≤ greatestRate) × (largest ≤ greatestTotal)) × ((length (now sums) ≤ length (now places)) × Track (length (now sums) - 1) (now places) count))) ⌝ }
+    ensures { λ k. ⌜ Coarser (sumsIn (now (sums .entry))) low largest (length (now (sums .entry)) - 1) (now (places .entry)) count (now (places .exit)) k ⌝ }
 {
     if low == done {
         return count;
@@ -330,6 +412,20 @@ fn floor_rates(job: Job) -> [u64; Job::MOST_NODES]
     floors
 }
 
+// The highest of the links' rates, none of which is below `least`.
+fn highest(least: u64, nodes: usize, floors: &[u64; Job::MOST_NODES]) -> u64
+    requires { ⌜ ((0 < nodes) × (nodes ≤ mostNodes)) × ((least ≤ greatestRate) × ((u : ℕ) → u < mostNodes → getD (now floors) u 0 ≤ greatestRate)) ⌝ }
+    ensures { λ r. ⌜ Top nodes (now (floors .entry)) least r ⌝ }
+{
+    let mut top = least;
+    let mut i = 1;
+    while i < nodes {
+        top = greater(top, floors[i]);
+        i += 1;
+    }
+    top
+}
+
 // The lesser of two rates, if the second is not below y.
 fn nearer(rate: u64, other: u64, y: u64) -> u64
     ensures { λ r. ⌜ ((y ≤ other → r ≡ min rate other) × (other < y → r ≡ rate)) ⌝ }
@@ -337,11 +433,11 @@ fn nearer(rate: u64, other: u64, y: u64) -> u64
     if other < y { rate } else { lesser(rate, other) }
 }
 
-// The least rate from y on.
-fn next_rate(floors: &[u64; Job::MOST_NODES], y: u64) -> u64
-    ensures { λ r. ⌜ NextRate (now (floors .entry)) mostNodes y r ⌝ }
+// The least rate from y on, the top where there is none.
+fn next_rate(floors: &[u64; Job::MOST_NODES], y: u64, top: u64) -> u64
+    ensures { λ r. ⌜ NextRate (now (floors .entry)) mostNodes y top r ⌝ }
 {
-    let mut rate = Node::GREATEST_RATE;
+    let mut rate = top;
     let mut u = 0;
     while u < Job::MOST_NODES {
         rate = nearer(rate, floors[u], y);
@@ -351,13 +447,14 @@ fn next_rate(floors: &[u64; Job::MOST_NODES], y: u64) -> u64
 }
 
 // The four least rates from y on.
-fn next_four(floors: &[u64; Job::MOST_NODES], y: u64) -> Four
-    ensures { λ r. ⌜ NextFour (now (floors .entry)) y r ⌝ }
+fn next_four(floors: &[u64; Job::MOST_NODES], y: u64, top: u64) -> Four
+    requires { ⌜ top ≤ greatestRate ⌝ }
+    ensures { λ r. ⌜ NextFour (now (floors .entry)) y top r ⌝ }
 {
-    let a = next_rate(floors, y);
-    let b = next_rate(floors, a + 1);
-    let c = next_rate(floors, b + 1);
-    let d = next_rate(floors, c + 1);
+    let a = next_rate(floors, y, top);
+    let b = next_rate(floors, a + 1, top);
+    let c = next_rate(floors, b + 1, top);
+    let d = next_rate(floors, c + 1, top);
     Four { a, b, c, d }
 }
 
@@ -402,13 +499,14 @@ fn needs(job: Job, sums: &[u64], places: &mut [usize]) -> [u64; Job::MOST_NODES]
 {
     let floors = floor_rates(job);
     let mut y = least_rate(job);
+    let top = highest(y, job.nodes, &floors);
     let mut done = y;
-    let first = first_places(sums, y, places);
+    let first = first_places(sums, y, top, places);
     let largest = first.largest;
     let mut count = first.count;
     let mut needs = [0u64; Job::MOST_NODES];
-    while y <= Node::GREATEST_RATE {
-        let r = next_four(&floors, y);
+    while y <= top {
+        let r = next_four(&floors, y, top);
         let low = due(done, r.a);
         count = thin(sums, low, done, largest, places, count);
         let x = four_needs(sums, places, count, largest, r);

@@ -49,10 +49,10 @@ this i = omega (arith, i .before .loop .inv .0)
 inside-sums : (i : In) → next-place i < length (sums-in i)
 inside-sums i =
     let pre = i .before .before .before .before .pre in
-    omega (arith, pre .1 .1 .0 .passes .inside (i .before .loop .j) (i .loop-test .taken), pre .0 .0 .some-sum)
+    omega (arith, pre .1 .1 .0 .passes .track .inside (i .before .loop .j) (i .loop-test .taken), pre .0 .0 .some-sum)
 
 rising : (i : In) (u : ℕ) → u < i .before .loop .j → getD (places-in i) u 0 < getD (places-in i) (suc u) 0
-rising i u h = i .before .before .before .before .pre .1 .1 .0 .passes .rising u (omega (arith, i .loop-test .taken))
+rising i u h = i .before .before .before .before .pre .1 .1 .0 .passes .track .rising u (omega (arith, i .loop-test .taken))
 
 forward : (i : In) → i .before .loop .at < next-place i
 forward i =
@@ -82,19 +82,19 @@ loop-holds : tie.Need-loop-holds Inv-loop μ-loop
 loop-holds c =
     let start = c .before .before in
     let sums = start .args .sums .now in
-    let places = start .pre .1 .1 .0 .passes in
+    let places = start .pre .1 .1 .0 .passes .track in
     let first : (r : ℕ) → LeadBy (sumsIn sums) (start .args .places .now) r 0 (record { ahead = 0; most = 0 }) = lead-start (sumsIn sums) (start .args .places .now) in
     (omega arith, (omega (arith, places .some-place), (sym (places .starts), (sym (film-of sums (start .pre .0 .0) .starts), (first _, (first _, (first _, first _)))))))
 
 mul-to : tie.Need-mul-to Inv-loop μ-loop
 mul-to c =
     let pre = c .before .before .before .before .pre in
-    omega (arith, c .loop-test .taken, pre .1 .1 .0 .passes .few, pre .1 .0, pre .0 .0 .some-sum)
+    omega (arith, c .loop-test .taken, pre .1 .1 .0 .passes .track .few, pre .1 .0, pre .0 .0 .some-sum)
 
 shared-slice-read-to : tie.Need-shared-slice-read-to Inv-loop μ-loop
 shared-slice-read-to c =
     let pre = c .before .before .before .before .before .pre in
-    omega (arith, c .before .loop-test .taken, pre .1 .1 .0 .passes .few, pre .0 .1, pre .0 .0 .some-sum)
+    omega (arith, c .before .loop-test .taken, pre .1 .1 .0 .passes .track .few, pre .0 .1, pre .0 .0 .some-sum)
 
 mul-next : tie.Need-mul-next Inv-loop μ-loop
 mul-next c = omega (arith, inside-sums (c .before), c .before .before .before .before .before .pre .1 .0)

@@ -6,13 +6,14 @@ use mathlib.Core.Path.{_≡_, refl, ap, sym, _∙_}
 use Prim.Native.Nat.{ℕ, suc, _+_, _-_, _≤_, _<_}
 use lib.ListN.{length, getD, length-set}
 use lib.Seq.{getD-set-same}
+use Rattle.job.specs.Limits.{greatestRate, greatestTotal}
 use Rattle.curves.specs.Curves.{sumsIn}
-use Rattle.curves.proofs.SumsLaws.{film-of}
+use Rattle.curves.proofs.SumsLaws.{film-of, sum-fits}
 use mathlib.Core.Logic.{inl}
 use Rattle.rates.specs.Work.{mostAhead}
 use Rattle.rates.proofs.SumLaws.{sum-at}
 use Rattle.rates.proofs.MarkLaws.{Low, Marking, mark-start, mark-next}
-use Rattle.rates.proofs.NeedLaws.{frame-next}
+use Rattle.rates.proofs.NeedLaws.{frame-next, most-under}
 use Rattle.rates.proofs.PlaceLaws.{marks-places}
 
 abbrev Inv-loop : tie.InvT-loop
@@ -118,7 +119,12 @@ returns c =
     let sums = start .args .sums .now in
     let l = c .before .loop in
     let e : l .m ≡ length sums = omega (arith, c .loop-test .left, l .inv .1 .0) in
-    marks-places (sumsIn sums) (film-of sums (start .pre .0) .grows) _ _ _ _ (rw e at (l .inv .1 .1 .1 .0 .marks)) (l .largest) (rw e at (l .inv .1 .1 .1 .1))
+    let T = sumsIn sums in
+    let film = film-of sums (start .pre .0) in
+    let M = length sums - 1 in
+    let alone = rw e at (l .inv .1 .1 .1 .1) in
+    let small : l .largest ≤ greatestTotal = omega (arith, alone 0, most-under T (λ m. film .grows m (suc m) (omega arith)) 0 M, sum-fits sums (start .pre .0) M) in
+    marks-places T (film .grows) _ _ _ _ (rw e at (l .inv .1 .1 .1 .0 .marks)) greatestRate (l .largest) small alone
 
 pub mark-spec : {M : Type 1} → statement M
 mark-spec =

@@ -7,14 +7,14 @@ use mathlib.Core.Path.{_≡_}
 use Prim.Native.Nat.{ℕ, _+_, _-_, _≤_, _<_, min}
 use native.Mathlib.Decide.{ℕ-discrete, decLt}
 use lib.ListN.{getD}
-use Rattle.job.specs.Limits.{mostNodes, greatestRate}
+use Rattle.job.specs.Limits.{mostNodes}
 use Rattle.rates.specs.Work.{NextRate}
 
 -- one place more
-further : (floors : List ℕ) (u y r s : ℕ) → NextRate floors u y r → ((y ≤ getD floors u 0 → s ≡ min r (getD floors u 0)) × (getD floors u 0 < y → s ≡ r)) → NextRate floors (u + 1) y s
-further floors u y r s so (near, far) = go (decLt (getD floors u 0) y)
+further : (floors : List ℕ) (u y top r s : ℕ) → NextRate floors u y top r → ((y ≤ getD floors u 0 → s ≡ min r (getD floors u 0)) × (getD floors u 0 < y → s ≡ r)) → NextRate floors (u + 1) y top s
+further floors u y top r s so (near, far) = go (decLt (getD floors u 0) y)
   where
-    go : Dec (getD floors u 0 < y) → NextRate floors (u + 1) y s
+    go : Dec (getD floors u 0 < y) → NextRate floors (u + 1) y top s
     go (yes h) =
         record {
           from = omega (arith, far h, so .from);
@@ -38,10 +38,10 @@ further floors u y r s so (near, far) = go (decLt (getD floors u 0) y)
         at v l k (no ne) is = omega (arith, is, so .least v (omega arith) k)
 
 abbrev Inv-loop : tie.InvT-loop
-Inv-loop floors y rate₀ u₀ rate u = (u ≤ mostNodes) × NextRate floors u y rate
+Inv-loop floors y top rate₀ u₀ rate u = (u ≤ mostNodes) × NextRate floors u y top rate
 
 abbrev μ-loop : tie.MeasureT-loop
-μ-loop floors y rate₀ u₀ rate u = mostNodes - u
+μ-loop floors y top rate₀ u₀ rate u = mostNodes - u
 
 loop-holds : tie.Need-loop-holds Inv-loop μ-loop
 loop-holds c = (omega arith, record { from = omega arith; to = omega arith; least = λ v l k. absurd (omega arith) })
@@ -62,7 +62,7 @@ loop-less : tie.Need-loop-less Inv-loop μ-loop
 loop-less c = omega (arith, c .before .before .loop-test .taken)
 
 loop-again : tie.Need-loop-again Inv-loop μ-loop
-loop-again c = (omega (arith, c .before .before .loop-test .taken), further _ _ _ _ _ (c .before .before .before .loop .inv .1) (c .nearer .ensures))
+loop-again c = (omega (arith, c .before .before .loop-test .taken), further _ _ _ _ _ _ (c .before .before .before .loop .inv .1) (c .nearer .ensures))
 
 returns : tie.Need-returns Inv-loop μ-loop
 returns c =

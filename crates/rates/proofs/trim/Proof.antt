@@ -4,16 +4,7 @@ use Rattle.rates.proofs.trim.Statement.{statement}
 use Rattle.rates.proofs.trim.Tie as tie
 use mathlib.Core.Path.{_≡_, refl}
 use Prim.Native.Nat.{ℕ, _≤_, _<_, min}
-use native.Mathlib.Decide.{decLt}
-use Rattle.job.specs.Limits.{mostFrames}
-
--- what is picked is as small as both
-picked : (x y a b r : ℕ) → (x < y → r ≡ a) → (y ≤ x → r ≡ b) → a ≤ mostFrames → b ≤ mostFrames → r ≤ mostFrames
-picked x y a b r one other h l = go (decLt x y)
-  where
-    go : Dec (x < y) → r ≤ mostFrames
-    go (yes less) = omega (arith, one less)
-    go (no ne) = omega (arith, other (omega arith))
+use Rattle.rates.proofs.PlaceLaws.{picked}
 
 lesser-is : (a b : ℕ) → a ≤ b → min a b ≡ a
 lesser-is a b h = omega arith
@@ -28,7 +19,7 @@ add-last : tie.Need-add-last
 add-last c =
     let start = c .before in
     let t = start .args .t in
-    omega (arith, picked (t .floor) (start .args .lead) (t .last) (t .peak) (c .pick-place .result) (c .pick-place .ensures .0) (c .pick-place .ensures .1) (start .pre .0 .0) (start .pre .0 .1))
+    omega (arith, picked (t .floor) (start .args .lead) (t .last) (t .peak) (c .pick-place .result) (c .pick-place .ensures) (start .pre .0 .0) (start .pre .0 .1))
 
 lesser-requires : tie.Need-lesser-requires
 lesser-requires c κs = search needs

@@ -5,6 +5,7 @@ use mathlib.Core.Logic.{⊎-elim}
 use Prim.Native.Nat.{ℕ, zero, suc, _+_, _-_, _*_, _≤_, _<_, min}
 use native.Mathlib.Omega.{arith}
 use native.Mathlib.Nat.{mul-comm, mul-le-mul-left}
+use native.Mathlib.Decide.{decLt}
 use lib.Dec.{ltb}
 use borrow.Author.Tests.{le-ltb, ltb-false}
 use Rattle.base.specs.Range.{some, first}
@@ -14,7 +15,7 @@ use Rattle.job.specs.Limits.{longestDelay}
 use Rattle.smoothing.specs.Row.{ceilDiv}
 use Rattle.smoothing.proofs.RowLaws.{ceilDiv-covers, ceilDiv-least}
 use Rattle.rates.specs.Rates.{inTime}
-use Rattle.rates.specs.Work.{Later}
+use Rattle.rates.specs.Work.{Later, Delayed}
 
 -- ---- what it is to be in time
 
@@ -73,12 +74,6 @@ module _ (T r m w : ℕ) (fits : w ≤ longestDelay + 1) where
 
 -- ---- frame by frame
 
--- w is the least delay in time for the frames before m; one more than the longest where none up to that is
-pub record Delayed (T : ℕ → ℕ) (r m w : ℕ) : Type 0 where
-  pub to : w ≤ longestDelay + 1
-  pub late : w ≤ longestDelay → (i : ℕ) → i < m → T i ≤ r * (i + w)
-  pub least : (y : ℕ) → y ≤ longestDelay → ((i : ℕ) → i < m → T i ≤ r * (i + y)) → w ≤ y
-
 module _ (T : ℕ → ℕ) (r : ℕ) where
   pub delayed-none : Delayed T r 0 0
   delayed-none = record { to = omega arith; late = λ l i h. absurd (omega arith); least = λ y a b. omega arith }
@@ -97,6 +92,21 @@ module _ (T : ℕ → ℕ) (r : ℕ) where
     where
       more : (i : ℕ) → i + w ≤ i + x
       more i = omega (arith, l .from)
+
+  -- a stretch of slots of which the last is in time at the first
+  pub delayed-stretch : ((i k : ℕ) → i ≤ k → T i ≤ T k) → (m to w : ℕ) → m < to → T (to - 1) ≤ r * (m + w) → Delayed T r m w → Delayed T r to w
+  delayed-stretch grows m to w some h d =
+      record {
+        to = d .to;
+        late = λ l i q. go l i q (decLt i m);
+        least = λ y l each. d .least y l (λ i q. each i (omega arith));
+      }
+    where
+      go : w ≤ longestDelay → (i : ℕ) → i < to → Dec (i < m) → T i ≤ r * (i + w)
+      go l i q (yes before-m) = d .late l i before-m
+      go l i q (no ne) =
+          let on : m + w ≤ i + w = omega arith in
+          omega (arith, grows i (to - 1) (omega arith), h, mul-le-mul-left r on)
 
   pub delayed-first : (M m w : ℕ) → m ≡ M + 1 → Delayed T r m w → w ≡ first (inTime r M T) (longestDelay + 1)
   delayed-first M m w e d =

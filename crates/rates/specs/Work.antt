@@ -158,6 +158,12 @@ pub record Later (T r m w x : ℕ) : Type 0 where
   pub late : x ≤ longestDelay → T ≤ r * (m + x)
   pub least : (y : ℕ) → w ≤ y → y ≤ longestDelay → T ≤ r * (m + y) → x ≤ y
 
+-- w is the least delay in time for the slots before m; one more than the longest where none up to that is
+pub record Delayed (T : ℕ → ℕ) (r m w : ℕ) : Type 0 where
+  pub to : w ≤ longestDelay + 1
+  pub late : w ≤ longestDelay → (i : ℕ) → i < m → T i ≤ r * (i + w)
+  pub least : (y : ℕ) → y ≤ longestDelay → ((i : ℕ) → i < m → T i ≤ r * (i + y)) → w ≤ y
+
 -- the need of each node at its place, from the sums T(0) to T(M)
 abbrev pub needsOf : Tree → List ℕ → List ℕ
 needsOf t sums = tab (perNode (t .n) (λ i. needOf sums (floorRate t i))) mostNodes

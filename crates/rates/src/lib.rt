@@ -16,7 +16,7 @@ ghost use Rattle.job.proofs.RefusalLaws.{Accepted};
 ghost use Rattle.curves.specs.Curves.{sumsIn, HoldsSums};
 ghost use Rattle.rates.specs.Rates.{total, floorRate, leastRate, inTime};
 ghost use Rattle.rates.specs.Answer.{Sizes};
-ghost use Rattle.rates.specs.Work.{Later, furtherOf, Kept, onwardOf, Trims, Lifts, Track, Places, PlacesAt, Coarser, Raised, needOf, fourOf, FloorsOf, Top, NextRate, NextFour, chosen, HandedOut, needsOf, Needs, memoryBy, Worked};
+ghost use Rattle.rates.specs.Work.{Later, Delayed, furtherOf, Kept, onwardOf, Trims, Lifts, Track, Places, PlacesAt, Coarser, Raised, needOf, fourOf, FloorsOf, Top, NextRate, NextFour, chosen, HandedOut, needsOf, Needs, memoryBy, Worked};
 use job::Job;
 use job::Node;
 
@@ -84,6 +84,39 @@ fn later(sum: u64, r: u64, m: u64, w: u64) -> u64
     lesser(slots - m, Node::LONGEST_DELAY as u64 + 1)
 }
 
+// The least delay in time at rate r for the slots before `to`, from that for those before m. Where all that is played by the last of these slots
+// is in time at the first, each is.
+fn delay_to(sums: &[u64], r: u64, m: usize, to: usize, w: u64) -> u64
+    requires { ⌜ (HoldsSums (now sums) × ((length (now sums) ≤ mostFrames + 1) × (r ≤ greatestRate))) × (((m < to) × (to ≤ length (now sums))) × Delayed (sumsIn (now sums)) r m w) ⌝ }
+    ensures { λ x. ⌜ Delayed (sumsIn (now (sums .entry))) r to x ⌝ }
+{
+    if sums[to - 1] <= r * (m as u64 + w) {
+        return w;
+    }
+    let mut w = w;
+    let mut m = m;
+    while m < to {
+        w = later(sums[m], r, m as u64, w);
+        m += 1;
+    }
+    w
+}
+
+// So many slots are tried at once.
+const STRETCH: usize = 64;
+
+// The end of a stretch of slots from m on.
+fn stretch(m: usize, length: usize) -> usize
+    requires { ⌜ (m < length) × (length ≤ mostFrames + 1) ⌝ }
+    ensures { λ to. ⌜ (m < to) × (to ≤ length) ⌝ }
+{
+    if m + STRETCH < length {
+        m + STRETCH
+    } else {
+        length
+    }
+}
+
 // The least delay that is in time at rate r; one more than the longest where none up to that is.
 fn start_delay(sums: &[u64], r: u64) -> u64
     requires { ⌜ HoldsSums (now sums) × ((length (now sums) ≤ mostFrames + 1) × (r ≤ greatestRate)) ⌝ }
@@ -92,8 +125,9 @@ fn start_delay(sums: &[u64], r: u64) -> u64
     let mut w = 0;
     let mut m = 0;
     while m < sums.len() {
-        w = later(sums[m], r, m as u64, w);
-        m += 1;
+        let to = stretch(m, sums.len());
+        w = delay_to(sums, r, m, to, w);
+        m = to;
     }
     w
 }

@@ -393,12 +393,16 @@ fn raise_near(sums: &[u64], low: u64, high: u64, places: &mut [usize], count: us
     raise(sums, high, places, count)
 }
 
-// The places for rates from `low` to `high`, and the largest frame.
-fn first_places(sums: &[u64], low: u64, high: u64, places: &mut [usize]) -> Marked
+// The places for rates from `low` to `high`, and the largest frame. Where no rate is above the fourth, one pass finds all needs, and takes less
+// time than to leave places out.
+fn first_places(sums: &[u64], low: u64, fourth: u64, high: u64, places: &mut [usize]) -> Marked
     requires { ⌜ HoldsSums (now sums) × ((length (now sums) ≤ mostFrames + 1) × (((low ≤ greatestRate) × (high ≤ greatestRate)) × (length (now sums) ≤ length (now places)))) ⌝ }
     ensures { λ r. ⌜ Places (sumsIn (now (sums .entry))) low high (r .largest) (length (now (sums .entry)) - 1) (now (places .exit)) (r .count) ⌝ }
 {
     let marked = mark(sums, low, places);
+    if high <= fourth {
+        return marked;
+    }
     let largest = marked.largest;
     let fewer = coarsen(sums, low, largest, places, marked.count);
     let count = raise_near(sums, low, high, places, fewer);
@@ -535,7 +539,8 @@ fn needs(job: Job, sums: &[u64], places: &mut [usize]) -> [u64; Job::MOST_NODES]
     let mut y = least_rate(job);
     let top = highest(y, job.nodes, &floors);
     let mut done = y;
-    let first = first_places(sums, y, top, places);
+    let lowest = next_four(&floors, y, top);
+    let first = first_places(sums, y, lowest.d, top, places);
     let largest = first.largest;
     let mut count = first.count;
     let mut needs = [0u64; Job::MOST_NODES];

@@ -8,26 +8,35 @@ use Rattle.rates.proofs.PlaceLaws.{places-within, places-coarser, place
 mark-requires : tie.Need-mark-requires
 mark-requires c κs = search needs
 
-coarsen-requires : tie.Need-coarsen-requires
-coarsen-requires c κs =
-    let start = c .before .before .before .before .before .before .before in
-    let mark = c .before .before .before .mark in
-    (start .pre .0, (start .pre .1 .0, ((start .pre .1 .1 .0 .0, mark .ensures .small), (omega (arith, mark .kept .1 .1 .0, start .pre .1 .1 .1), mark .ensures .track))))
-
-raise-near-requires : tie.Need-raise-near-requires
-raise-near-requires c κs =
-    let start = c .before .before .before .before .before .before .before .before .before .before .before in
-    let coarsen = c .before .before .before .coarsen in
-    let mark = c .before .before .before .before .before .before .before .mark in
-    (start .pre .0, (start .pre .1 .0, (start .pre .1 .1 .0, (omega (arith, coarsen .kept .1 .1 .1 .0, mark .kept .1 .1 .0, start .pre .1 .1 .1), coarsen .ensures .track))))
-
 same-length : tie.Need-same-length
 same-length c = search needs
 
 returns : tie.Need-returns
 returns c =
-    let start = c .before .before .before .before .before .before .before .before .before .before .before .before .before .before in
-    let mark = c .before .before .before .before .before .before .before .before .before .before .mark in
+    let start = c .before .before .before .before .before .before .before in
+    let mark = c .before .before .before .mark in
+    places-within _ (start .args .low) greatestRate (start .args .low) (start .args .high) (mark .result .largest) _ _ _ (omega arith) (start .pre .1 .1 .0 .1) (mark .ensures)
+
+coarsen-requires : tie.Need-coarsen-requires
+coarsen-requires c κs =
+    let start = c .before .before .before .before .before .before .before .before in
+    let mark = c .before .before .before .before .mark in
+    (start .pre .0, (start .pre .1 .0, ((start .pre .1 .1 .0 .0, mark .ensures .small), (omega (arith, mark .kept .1 .1 .0, start .pre .1 .1 .1), mark .ensures .track))))
+
+raise-near-requires : tie.Need-raise-near-requires
+raise-near-requires c κs =
+    let start = c .before .before .before .before .before .before .before .before .before .before .before .before in
+    let coarsen = c .before .before .before .coarsen in
+    let mark = c .before .before .before .before .before .before .before .before .mark in
+    (start .pre .0, (start .pre .1 .0, (start .pre .1 .1 .0, (omega (arith, coarsen .kept .1 .1 .1 .0, mark .kept .1 .1 .0, start .pre .1 .1 .1), coarsen .ensures .track))))
+
+same-length-2 : tie.Need-same-length-2
+same-length-2 c = search needs
+
+returns-2 : tie.Need-returns-2
+returns-2 c =
+    let start = c .before .before .before .before .before .before .before .before .before .before .before .before .before .before .before in
+    let mark = c .before .before .before .before .before .before .before .before .before .before .before .mark in
     let coarsen = c .before .before .before .before .before .before .coarsen in
     let raise = c .before .before .raise-near in
     let low = start .args .low in
@@ -37,4 +46,12 @@ returns c =
 
 pub first-places-spec : {M : Type 1} → statement M
 first-places-spec =
-    tie.close (tie.spec mark-requires coarsen-requires raise-near-requires same-length returns)
+    tie.close
+    (tie.spec
+    mark-requires
+    same-length
+    returns
+    coarsen-requires
+    raise-near-requires
+    same-length-2
+    returns-2)

@@ -1,7 +1,7 @@
 -- Passes that stop at some places only.
 use mathlib.Core.List.{List}
 use mathlib.Core.Path.{_≡_, refl, sym, _∙_}
-use Prim.Native.Nat.{ℕ, zero, suc, _+_, _-_, _*_, _≤_, _<_, max}
+use Prim.Native.Nat.{ℕ, zero, suc, _+_, _-_, _*_, _≤_, _<_, max, min}
 use native.Mathlib.Omega.{arith}
 use native.Mathlib.Decide.{ℕ-discrete, decLt}
 use lib.ListN.{length, getD, set}
@@ -21,6 +21,12 @@ picked x y a b r (one, other) h l = go (decLt x y)
     go (yes less) = omega (arith, one less)
     go (no ne) = omega (arith, other (omega arith))
 
+pub lesser-is : (a b : ℕ) → a ≤ b → min a b ≡ a
+lesser-is a b h = omega arith
+
+pub lesser-other : (a b : ℕ) → b ≤ a → min a b ≡ b
+lesser-other a b h = omega arith
+
 -- a rate's product over some slots is that of a lower rate and, at least, by how much the rate is higher
 pub times-higher : (low r slots : ℕ) → low ≤ r → 0 < slots → low * slots + (r - low) ≤ r * slots
 times-higher low r slots h p =
@@ -31,6 +37,7 @@ times-higher low r slots h p =
     more : (d n : ℕ) → low * suc n + d ≤ (low + d) * suc n
     more d n = omega arith
 
+-- a product over some slots is that over the first and that over the rest
 pub times-split : (r p at to : ℕ) → p ≤ at → at ≤ to → r * (to - p) ≡ r * (at - p) + r * (to - at)
 times-split r p at to h l =
     let e : to - p ≡ (at - p) + (to - at) = omega arith in

@@ -245,118 +245,114 @@ module _ (T : ℕ → ℕ) (grows : (m k : ℕ) → m ≤ k → T m ≤ T k) (lo
 
   -- ---- a place after the last
 
-  module _ (h : t .last ≤ j) where
-    fits : suc (t .last) < length places
-    fits = omega arith
+  fits : suc (t .last) < length places
+  fits = omega (arith, so .few)
 
-    abbrev after : List ℕ
-    after = set places (suc (t .last)) to
+  last-on : (r : ℕ) → low ≤ r → straightTo T places r (t .last) to ≡ aheadBy T old r j + (T to - T at) - r * (to - at)
+  last-on r l = rw (so .ends, so .same r l) refl
 
-    last-on : (r : ℕ) → low ≤ r → straightTo T places r (t .last) to ≡ aheadBy T old r j + (T to - T at) - r * (to - at)
-    last-on r l = rw (so .ends, so .same r l) refl
+  after-same : (r : ℕ) → low ≤ r → aheadBy T (set places (suc (t .last)) to) r (suc (t .last)) ≡ aheadBy T old r (suc j)
+  after-same r l = put-ahead-here T places (t .last) to fits r ∙ last-on r l ∙ sym (full-on r)
 
-    after-same : (r : ℕ) → low ≤ r → aheadBy T (set places (suc (t .last)) to) r (suc (t .last)) ≡ aheadBy T old r (suc j)
-    after-same r l = put-ahead-here T places (t .last) to fits r ∙ last-on r l ∙ sym (full-on r)
+  after-most : (r : ℕ) → low ≤ r → mostBy T (set places (suc (t .last)) to) r (suc (t .last)) ≡ max (mostBy T places r (t .last)) (aheadBy T old r j + (T to - T at) - r * (to - at))
+  after-most r l = put-most-here T places (t .last) to fits r ∙ rw (last-on r l) refl
 
-    after-most : (r : ℕ) → low ≤ r → mostBy T (set places (suc (t .last)) to) r (suc (t .last)) ≡ max (mostBy T places r (t .last)) (aheadBy T old r j + (T to - T at) - r * (to - at))
-    after-most r l = put-most-here T places (t .last) to fits r ∙ rw (last-on r l) refl
+  after-self : (r : ℕ) → low ≤ r → straightTo T (set places (suc (t .last)) to) r (suc (t .last)) to ≡ aheadBy T old r j + (T to - T at) - r * (to - at)
+  after-self r l =
+      let here = put-here T places (t .last) to fits in
+      let none : r * (to - to) ≡ 0 = let z : to - to ≡ 0 = omega arith in rw z (omega arith) in
+      rw here (omega (arith, none, after-same r l, full-on r))
 
-    after-self : (r : ℕ) → low ≤ r → straightTo T (set places (suc (t .last)) to) r (suc (t .last)) to ≡ aheadBy T old r j + (T to - T at) - r * (to - at)
-    after-self r l =
-        let here = put-here T places (t .last) to fits in
-        let none : r * (to - to) ≡ 0 = let z : to - to ≡ 0 = omega arith in rw z (omega arith) in
-        rw here (omega (arith, none, after-same r l, full-on r))
+  peak-next : Trimming T low frame old (set places (suc (t .last)) to) (suc j) (record { last = suc (t .last); peak = suc (t .last); floor = aheadBy T old low (suc j); bar = aheadBy T old low (suc j) }) (aheadBy T old low (suc j))
+  peak-next =
+      record {
+        starts = put-before T places (t .last) to fits 0 (omega arith) ∙ so .starts;
+        ends = put-here T places (t .last) to fits;
+        few = omega (arith, so .few);
+        order = omega arith;
+        rising = put-rising T places (t .last) to fits at up (omega (arith, so .ends)) (so .rising);
+        inside = put-inside T places (t .last) to fits at up (so .inside);
+        is-lead = refl;
+        floored = omega arith;
+        barred = omega arith;
+        slack = omega arith;
+        top = omega (arith, after-same low (omega arith));
+        same = after-same;
+        rates = λ r l.
+            rw (after-most r l, after-self r l, full-on r, most-on r, lead-on)
+            (on-peak (T to - T at) (r * (to - at)) (low * (to - at)) (r - low) (more r l) _ _ _ _ _ _ _ (aheadBy T places r (t .peak) + (T at - T from)) (r * (at - from)) (so .rates r l) (so .floored));
+      }
 
-    peak-next : Trimming T low frame old (set places (suc (t .last)) to) (suc j) (record { last = suc (t .last); peak = suc (t .last); floor = aheadBy T old low (suc j); bar = aheadBy T old low (suc j) }) (aheadBy T old low (suc j))
-    peak-next =
-        record {
-          starts = put-before T places (t .last) to fits 0 (omega arith) ∙ so .starts;
-          ends = put-here T places (t .last) to fits;
-          few = omega arith;
-          order = omega arith;
-          rising = put-rising T places (t .last) to fits at up (omega (arith, so .ends)) (so .rising);
-          inside = put-inside T places (t .last) to fits at up (so .inside);
-          is-lead = refl;
-          floored = omega arith;
-          barred = omega arith;
-          slack = omega arith;
-          top = omega (arith, after-same low (omega arith));
-          same = after-same;
-          rates = λ r l.
-              rw (after-most r l, after-self r l, full-on r, most-on r, lead-on)
-              (on-peak (T to - T at) (r * (to - at)) (low * (to - at)) (r - low) (more r l) _ _ _ _ _ _ _ (aheadBy T places r (t .peak) + (T at - T from)) (r * (at - from)) (so .rates r l) (so .floored));
-        }
+  between-next : aheadBy T old low (suc j) ≤ t .bar → t .floor ≤ aheadBy T old low (suc j)
+      → Trimming T low frame old (set places (suc (t .last)) to) (suc j) (record { last = suc (t .last); peak = t .peak; floor = t .floor; bar = min (t .bar) (t .floor + (frame - low)) }) (aheadBy T old low (suc j))
+  between-next barred floored =
+      let ahead-peak : (r : ℕ) → aheadBy T (set places (suc (t .last)) to) r (t .peak) ≡ aheadBy T places r (t .peak) = λ r. put-ahead T places (t .last) to fits r (t .peak) (so .order) in
+      let most-peak : (r : ℕ) → mostBy T (set places (suc (t .last)) to) r (t .peak) ≡ mostBy T places r (t .peak) = λ r. put-most T places (t .last) to fits r (t .peak) (so .order) in
+      let at-peak : getD (set places (suc (t .last)) to) (t .peak) 0 ≡ from = put-before T places (t .last) to fits (t .peak) (so .order) in
+      record {
+        starts = put-before T places (t .last) to fits 0 (omega arith) ∙ so .starts;
+        ends = put-here T places (t .last) to fits;
+        few = omega (arith, so .few);
+        order = omega (arith, so .order);
+        rising = put-rising T places (t .last) to fits at up (omega (arith, so .ends)) (so .rising);
+        inside = put-inside T places (t .last) to fits at up (so .inside);
+        is-lead = refl;
+        floored = floored;
+        barred = omega (arith, barred, so .slack);
+        slack = omega arith;
+        top = rw (ahead-peak low) (omega (arith, so .top));
+        same = after-same;
+        rates = λ r l.
+            rw (after-most r l, most-peak r, ahead-peak r, at-peak, straight-on r, full-on r, most-on r, lead-on)
+            (on-between (T to - T at) (r * (to - at)) (low * (to - at)) (r - low) (more r l) _ _ _ _ _ _ _ (aheadBy T places r (t .peak) + (T at - T from)) (r * (at - from)) (so .rates r l) (so .floored)
+            (rw (full-on r) at (small r (t .floor) l (omega arith) barred (omega (arith, barred, so .slack)))));
+      }
 
-    between-next : aheadBy T old low (suc j) ≤ t .bar → t .floor ≤ aheadBy T old low (suc j)
-        → Trimming T low frame old (set places (suc (t .last)) to) (suc j) (record { last = suc (t .last); peak = t .peak; floor = t .floor; bar = min (t .bar) (t .floor + (frame - low)) }) (aheadBy T old low (suc j))
-    between-next barred floored =
-        let ahead-peak : (r : ℕ) → aheadBy T (set places (suc (t .last)) to) r (t .peak) ≡ aheadBy T places r (t .peak) = λ r. put-ahead T places (t .last) to fits r (t .peak) (so .order) in
-        let most-peak : (r : ℕ) → mostBy T (set places (suc (t .last)) to) r (t .peak) ≡ mostBy T places r (t .peak) = λ r. put-most T places (t .last) to fits r (t .peak) (so .order) in
-        let at-peak : getD (set places (suc (t .last)) to) (t .peak) 0 ≡ from = put-before T places (t .last) to fits (t .peak) (so .order) in
-        record {
-          starts = put-before T places (t .last) to fits 0 (omega arith) ∙ so .starts;
-          ends = put-here T places (t .last) to fits;
-          few = omega arith;
-          order = omega (arith, so .order);
-          rising = put-rising T places (t .last) to fits at up (omega (arith, so .ends)) (so .rising);
-          inside = put-inside T places (t .last) to fits at up (so .inside);
-          is-lead = refl;
-          floored = floored;
-          barred = omega (arith, barred, so .slack);
-          slack = omega arith;
-          top = rw (ahead-peak low) (omega (arith, so .top));
-          same = after-same;
-          rates = λ r l.
-              rw (after-most r l, most-peak r, ahead-peak r, at-peak, straight-on r, full-on r, most-on r, lead-on)
-              (on-between (T to - T at) (r * (to - at)) (low * (to - at)) (r - low) (more r l) _ _ _ _ _ _ _ (aheadBy T places r (t .peak) + (T at - T from)) (r * (at - from)) (so .rates r l) (so .floored)
-              (rw (full-on r) at (small r (t .floor) l (omega arith) barred (omega (arith, barred, so .slack)))));
-        }
+  -- ---- a place after the peak
 
-    -- ---- a place after the peak
+  low-next : aheadBy T old low (suc j) ≤ t .bar → aheadBy T old low (suc j) ≤ t .floor
+      → Trimming T low frame old (set places (suc (t .peak)) to) (suc j) (record { last = suc (t .peak); peak = t .peak; floor = aheadBy T old low (suc j); bar = min (t .bar) (aheadBy T old low (suc j) + (frame - low)) }) (aheadBy T old low (suc j))
+  low-next barred floored =
+      let short : suc (t .peak) < length places = omega (arith, so .order, so .few) in
+      let ahead-peak : (r : ℕ) → aheadBy T (set places (suc (t .peak)) to) r (t .peak) ≡ aheadBy T places r (t .peak) = λ r. put-ahead T places (t .peak) to short r (t .peak) (omega arith) in
+      let most-peak : (r : ℕ) → mostBy T (set places (suc (t .peak)) to) r (t .peak) ≡ mostBy T places r (t .peak) = λ r. put-most T places (t .peak) to short r (t .peak) (omega arith) in
+      let at-peak : getD (set places (suc (t .peak)) to) (t .peak) 0 ≡ from = put-before T places (t .peak) to short (t .peak) (omega arith) in
+      let again-at : (r : ℕ) → low ≤ r → straightTo T places r (t .peak) to ≡ aheadBy T old r j + (T to - T at) - r * (to - at) =
+      λ r l. straight-on r
+      ∙ again (T to - T at) (r * (to - at)) (low * (to - at)) (r - low) (more r l) _ _ _ _ _ _ _ (aheadBy T places r (t .peak) + (T at - T from)) (r * (at - from)) (so .rates r l) (so .floored)
+      (omega (arith, lead-on, floored)) in
+      let most-last : (r : ℕ) → low ≤ r → mostBy T (set places (suc (t .peak)) to) r (suc (t .peak)) ≡ max (mostBy T places r (t .peak)) (aheadBy T old r j + (T to - T at) - r * (to - at)) =
+      λ r l. put-most-here T places (t .peak) to short r ∙ rw (again-at r l) refl in
+      record {
+        starts = put-before T places (t .peak) to short 0 (omega arith) ∙ so .starts;
+        ends = put-here T places (t .peak) to short;
+        few = omega (arith, so .order, so .few);
+        order = omega arith;
+        rising = put-rising T places (t .peak) to short at up peak-before (λ u q. so .rising u (omega (arith, so .order)));
+        inside = put-inside T places (t .peak) to short at up (λ u q. so .inside u (omega (arith, so .order)));
+        is-lead = refl;
+        floored = omega arith;
+        barred = omega (arith, barred);
+        slack = omega arith;
+        top = rw (ahead-peak low) (omega (arith, so .top));
+        same = λ r l. put-ahead-here T places (t .peak) to short r ∙ again-at r l ∙ sym (full-on r);
+        rates = λ r l.
+            rw (most-last r l, most-peak r, ahead-peak r, at-peak, again-at r l, full-on r, most-on r, lead-on)
+            (on-low (T to - T at) (r * (to - at)) (low * (to - at)) (r - low) (more r l) _ _ _ _ _ _ _ (aheadBy T places r (t .peak) + (T at - T from)) (r * (at - from)) (so .rates r l) (so .floored)
+            (rw (full-on r) at (small r (aheadBy T old low (suc j)) l floored barred (omega arith))));
+      }
 
-    low-next : aheadBy T old low (suc j) ≤ t .bar → aheadBy T old low (suc j) ≤ t .floor
-        → Trimming T low frame old (set places (suc (t .peak)) to) (suc j) (record { last = suc (t .peak); peak = t .peak; floor = aheadBy T old low (suc j); bar = min (t .bar) (aheadBy T old low (suc j) + (frame - low)) }) (aheadBy T old low (suc j))
-    low-next barred floored =
-        let short : suc (t .peak) < length places = omega (arith, so .order) in
-        let ahead-peak : (r : ℕ) → aheadBy T (set places (suc (t .peak)) to) r (t .peak) ≡ aheadBy T places r (t .peak) = λ r. put-ahead T places (t .peak) to short r (t .peak) (omega arith) in
-        let most-peak : (r : ℕ) → mostBy T (set places (suc (t .peak)) to) r (t .peak) ≡ mostBy T places r (t .peak) = λ r. put-most T places (t .peak) to short r (t .peak) (omega arith) in
-        let at-peak : getD (set places (suc (t .peak)) to) (t .peak) 0 ≡ from = put-before T places (t .peak) to short (t .peak) (omega arith) in
-        let again-at : (r : ℕ) → low ≤ r → straightTo T places r (t .peak) to ≡ aheadBy T old r j + (T to - T at) - r * (to - at) =
-        λ r l. straight-on r
-        ∙ again (T to - T at) (r * (to - at)) (low * (to - at)) (r - low) (more r l) _ _ _ _ _ _ _ (aheadBy T places r (t .peak) + (T at - T from)) (r * (at - from)) (so .rates r l) (so .floored)
-        (omega (arith, lead-on, floored)) in
-        let most-last : (r : ℕ) → low ≤ r → mostBy T (set places (suc (t .peak)) to) r (suc (t .peak)) ≡ max (mostBy T places r (t .peak)) (aheadBy T old r j + (T to - T at) - r * (to - at)) =
-        λ r l. put-most-here T places (t .peak) to short r ∙ rw (again-at r l) refl in
-        record {
-          starts = put-before T places (t .peak) to short 0 (omega arith) ∙ so .starts;
-          ends = put-here T places (t .peak) to short;
-          few = omega (arith, so .order);
-          order = omega arith;
-          rising = put-rising T places (t .peak) to short at up peak-before (λ u q. so .rising u (omega (arith, so .order)));
-          inside = put-inside T places (t .peak) to short at up (λ u q. so .inside u (omega (arith, so .order)));
-          is-lead = refl;
-          floored = omega arith;
-          barred = omega (arith, barred);
-          slack = omega arith;
-          top = rw (ahead-peak low) (omega (arith, so .top));
-          same = λ r l. put-ahead-here T places (t .peak) to short r ∙ again-at r l ∙ sym (full-on r);
-          rates = λ r l.
-              rw (most-last r l, most-peak r, ahead-peak r, at-peak, again-at r l, full-on r, most-on r, lead-on)
-              (on-low (T to - T at) (r * (to - at)) (low * (to - at)) (r - low) (more r l) _ _ _ _ _ _ _ (aheadBy T places r (t .peak) + (T at - T from)) (r * (at - from)) (so .rates r l) (so .floored)
-              (rw (full-on r) at (small r (aheadBy T old low (suc j)) l floored barred (omega arith))));
-        }
+  trim-next : (t′ : Trimmed) → Trims t (aheadBy T old low (suc j)) (frame - low) t′ → Trimming T low frame old (set places (t′ .last) to) (suc j) t′ (aheadBy T old low (suc j))
+  trim-next t′ how =
+      go (decLt (t .bar) (aheadBy T old low (suc j))) (decLt (t .floor) (aheadBy T old low (suc j)))
+    where
+      one : (n : ℕ) → n + 1 ≡ suc n
+      one n = omega arith
 
-    pub trim-next : (t′ : Trimmed) → Trims t (aheadBy T old low (suc j)) (frame - low) t′ → Trimming T low frame old (set places (t′ .last) to) (suc j) t′ (aheadBy T old low (suc j))
-    trim-next t′ how =
-        go (decLt (t .bar) (aheadBy T old low (suc j))) (decLt (t .floor) (aheadBy T old low (suc j)))
-      where
-        one : (n : ℕ) → n + 1 ≡ suc n
-        one n = omega arith
-
-        go : Dec (t .bar < aheadBy T old low (suc j)) → Dec (t .floor < aheadBy T old low (suc j)) → Trimming T low frame old (set places (t′ .last) to) (suc j) t′ (aheadBy T old low (suc j))
-        go (yes above) _ = rw (how .peak above, one (t .last)) peak-next
-        go (no ne) (yes over) = rw (how .between (omega arith) over, one (t .last)) (between-next (omega arith) (omega arith))
-        go (no ne) (no on) = rw (how .low (omega arith) (omega arith), one (t .peak)) (low-next (omega arith) (omega arith))
+      go : Dec (t .bar < aheadBy T old low (suc j)) → Dec (t .floor < aheadBy T old low (suc j)) → Trimming T low frame old (set places (t′ .last) to) (suc j) t′ (aheadBy T old low (suc j))
+      go (yes above) _ = rw (how .peak above, one (t .last)) peak-next
+      go (no ne) (yes over) = rw (how .between (omega arith) over, one (t .last)) (between-next (omega arith) (omega arith))
+      go (no ne) (no on) = rw (how .low (omega arith) (omega arith), one (t .peak)) (low-next (omega arith) (omega arith))
 
 -- a turn of the pass over the old places, in whose room those that are left are put
 module _ (T : ℕ → ℕ) (grows : (m k : ℕ) → m ≤ k → T m ≤ T k) (low frame M : ℕ) (old places : List ℕ) (count j : ℕ) (t : Trimmed) (lead to lead′ : ℕ) (t′ : Trimmed)
@@ -371,7 +367,7 @@ module _ (T : ℕ → ℕ) (grows : (m k : ℕ) → m ≤ k → T m ≤ T k) (lo
 
   pub trim-on : Trimming T low frame old (set places (t′ .last) to) j t′ lead′
   trim-on =
-      let on = trim-next T grows low frame old places (j - 1) t lead so (λ u h. was .rising u (omega arith)) (omega arith) (so .few) t′ (rw lead-is at how) in
+      let on = trim-next T grows low frame old places (j - 1) t lead so (λ u h. was .rising u (omega arith)) (omega arith) t′ (rw lead-is at how) in
       rw (next, lead-is, this) (rw this at on)
 
   pub trim-rest : (u : ℕ) → j + 1 ≤ u → getD (set places (t′ .last) to) u 0 ≡ getD old u 0

@@ -28,7 +28,7 @@ raise-near-requires c κs =
     let start = c .before .before .before .before .before .before .before .before .before .before .before .before in
     let coarsen = c .before .before .before .coarsen in
     let mark = c .before .before .before .before .before .before .before .before .mark in
-    (start .pre .0, (start .pre .1 .0, (start .pre .1 .1 .0, (omega (arith, coarsen .kept .1 .1 .1 .0, mark .kept .1 .1 .0, start .pre .1 .1 .1), coarsen .ensures .track))))
+    (start .pre .0, (start .pre .1 .0, ((start .pre .1 .1 .0 .0, omega (arith, start .pre .1 .1 .0)), (omega (arith, coarsen .kept .1 .1 .1 .0, mark .kept .1 .1 .0, start .pre .1 .1 .1), coarsen .ensures .track))))
 
 same-length-2 : tie.Need-same-length-2
 same-length-2 c = search needs

@@ -3,14 +3,8 @@ use borrow.Author.Needs.{needs}
 use Rattle.rates.proofs.lift.Statement.{statement}
 use Rattle.rates.proofs.lift.Tie as tie
 use mathlib.Core.Path.{_≡_, refl}
-use Prim.Native.Nat.{ℕ, _≤_, _<_, max, min}
-use Rattle.rates.proofs.PlaceLaws.{picked}
-
-lesser-is : (a b : ℕ) → a < b → min a b ≡ a
-lesser-is a b h = omega arith
-
-lesser-other : (a b : ℕ) → b ≤ a → min a b ≡ b
-lesser-other a b h = omega arith
+use Prim.Native.Nat.{ℕ, _≤_, _<_, max}
+use Rattle.rates.proofs.PlaceLaws.{picked, lesser-is, lesser-other}
 
 greater-is : (a b : ℕ) → b < a → max a b ≡ a
 greater-is a b h = omega arith
@@ -27,9 +21,8 @@ pick-place-requires-2 c κs = search needs
 add-last : tie.Need-add-last
 add-last c =
     let start = c .before .before in
-    let t = start .args .t in
-    let onto = picked (start .args .lead) (t .ceiling) (t .last) (t .valley) (c .before .pick-place .result) (c .before .pick-place .ensures) (start .pre .0) (start .pre .1) in
-    omega (arith, picked (t .base) (start .args .lead) (c .before .pick-place .result) (t .last) (c .pick-place2 .result) (c .pick-place2 .ensures) onto (start .pre .0))
+    let onto = picked _ _ _ _ _ (c .before .pick-place .ensures) (start .pre .0) (start .pre .1) in
+    omega (arith, picked _ _ _ _ _ (c .pick-place2 .ensures) onto (start .pre .0))
 
 greater-requires : tie.Need-greater-requires
 greater-requires c κs = search needs
@@ -56,8 +49,8 @@ returns c =
     let ceiling = c .pick .ensures in
     record {
       valley = λ h. rw (valley .1 h, ceiling .1 h, base, last .1 h, lesser-other (t .base) lead h) refl;
-      between = λ h l. rw (valley .0 h, ceiling .0 h, base, last .0 h, top, onto .0 l, lesser-is (t .base) lead h, greater-is (t .ceiling) lead l) refl;
-      high = λ h l. rw (valley .0 h, ceiling .0 h, base, last .0 h, top, onto .1 l, lesser-is (t .base) lead h, greater-other (t .ceiling) lead l) refl;
+      between = λ h l. rw (valley .0 h, ceiling .0 h, base, last .0 h, top, onto .0 l, lesser-is (t .base) lead (omega arith), greater-is (t .ceiling) lead l) refl;
+      high = λ h l. rw (valley .0 h, ceiling .0 h, base, last .0 h, top, onto .1 l, lesser-is (t .base) lead (omega arith), greater-other (t .ceiling) lead l) refl;
     }
 
 pub lift-spec : {M : Type 1} → statement M

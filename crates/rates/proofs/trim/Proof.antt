@@ -2,15 +2,8 @@ use native.Mathlib.Omega.{arith}
 use borrow.Author.Needs.{needs}
 use Rattle.rates.proofs.trim.Statement.{statement}
 use Rattle.rates.proofs.trim.Tie as tie
-use mathlib.Core.Path.{_≡_, refl}
-use Prim.Native.Nat.{ℕ, _≤_, _<_, min}
-use Rattle.rates.proofs.PlaceLaws.{picked}
-
-lesser-is : (a b : ℕ) → a ≤ b → min a b ≡ a
-lesser-is a b h = omega arith
-
-lesser-other : (a b : ℕ) → b ≤ a → min a b ≡ b
-lesser-other a b h = omega arith
+use mathlib.Core.Path.{_≡_, refl, _∙_}
+use Rattle.rates.proofs.PlaceLaws.{picked, lesser-is, lesser-other}
 
 pick-place-requires : tie.Need-pick-place-requires
 pick-place-requires c κs = search needs
@@ -18,8 +11,7 @@ pick-place-requires c κs = search needs
 add-last : tie.Need-add-last
 add-last c =
     let start = c .before in
-    let t = start .args .t in
-    omega (arith, picked (t .floor) (start .args .lead) (t .last) (t .peak) (c .pick-place .result) (c .pick-place .ensures) (start .pre .0 .0) (start .pre .0 .1))
+    omega (arith, picked _ _ _ _ _ (c .pick-place .ensures) (start .pre .0 .0) (start .pre .0 .1))
 
 lesser-requires : tie.Need-lesser-requires
 lesser-requires c κs = search needs
@@ -52,8 +44,8 @@ returns c =
     let top = c .pick2 .ensures in
     record {
       peak = λ h. rw (place .0 h, floor .0 h, top .0 h, onto .0 (omega (arith, start .pre .1 .0))) refl;
-      between = λ h l. rw (place .1 h, floor .1 h, top .1 h, bar, low, onto .0 l, lesser-is (t .floor) lead (omega arith)) refl;
-      low = λ h l. rw (place .1 h, floor .1 h, top .1 h, bar, low, onto .1 l, lesser-other (t .floor) lead l) refl;
+      between = λ h l. let same = low ∙ lesser-is (t .floor) lead (omega arith) in rw (place .1 h, floor .1 h ∙ same, top .1 h ∙ bar, same, onto .0 l) refl;
+      low = λ h l. let same = low ∙ lesser-other (t .floor) lead l in rw (place .1 h, floor .1 h ∙ same, top .1 h ∙ bar, same, onto .1 l) refl;
     }
 
 pub trim-spec : {M : Type 1} → statement M

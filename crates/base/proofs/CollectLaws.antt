@@ -17,14 +17,6 @@ eqb-sym a b = iff-same (eqb a b) (eqb b a) (λ h. eq-eqb b a (sym (eqb-true a b 
 abbrev pub With : ℕ → ℕ → ℕ → Type 0
 With s i r = (j : ℕ) → has r j ≡ (has s j || (eqb j i && ltb j wordBits))
 
--- where a word has room for i
-pub with-is : (s i r : ℕ) → i < wordBits → With s i r → (k : ℕ) → has r k ≡ (has s k || eqb k i)
-with-is s i r h w k = w k ∙ ap (λ (b : Bool). has s k || b) (room (true-or-false (eqb k i)))
-  where
-    room : (eqb k i ≡ true) ⊎ (eqb k i ≡ false) → (eqb k i && ltb k wordBits) ≡ eqb k i
-    room (inl e) = let q : k ≡ i = eqb-true k i e in rw (e, lt-ltb k wordBits (omega arith))
-    room (inr e) = rw e
-
 -- ---- in any order: s has those of a word's numbers that pass p
 
 abbrev pub Passing : (ℕ → Bool) → ℕ → Type 0

@@ -24,11 +24,6 @@ unfolding sum
 sum-bound f most zero h = omega arith
 sum-bound f most (suc m) h = rw suc-mul (omega (arith, sum-bound f most m (λ i q. h i (omega arith)), h m (omega arith)))
 
-pub sum-cong : (f g : ℕ → ℕ) (m : ℕ) → ((i : ℕ) → i < m → f i ≡ g i) → sum f m ≡ sum g m
-unfolding sum
-sum-cong f g zero h = refl
-sum-cong f g (suc m) h = rw (sum-cong f g m (λ i q. h i (omega arith)), h m (omega arith))
-
 -- ---- sums over those that pass
 
 module _ (p : ℕ → Bool) where

@@ -1,7 +1,8 @@
-// What every crate above leans on: numbers in bytes, sets of numbers as 64-bit words, tables (specs/ alone). It knows no job.
-ghost use mathlib.Core.Bool.{not, _&&_, _||_};
+// What every crate above leans on: the larger, the smaller and the difference of two numbers, numbers in bytes, sets of numbers as
+// 64-bit words, tables (specs/ alone). It knows no job.
+ghost use mathlib.Core.Bool.{cond, not, _&&_, _||_};
 ghost use mathlib.Core.Path.{_≡_};
-ghost use Prim.Native.Nat.{ℕ, _+_, _-_, _^_, _≤_, _<_};
+ghost use Prim.Native.Nat.{ℕ, _+_, _-_, _^_, _≤_, _<_, max, min};
 ghost use lib.Dec.{eqb, ltb};
 ghost use lib.ListN.{length};
 ghost use Rattle.base.specs.Number.{number};
@@ -10,6 +11,56 @@ ghost use Rattle.base.specs.Set.{has, wordBits};
 
 // How many numbers a word has room for, as a set.
 pub const WORD_BITS: usize = 64;
+
+// The larger of two numbers, the smaller, and the difference cut off at 0; each at both widths.
+pub fn max(a: u64, b: u64) -> u64
+    ensures { λ r. ⌜ r ≡ max a b ⌝ }
+{
+    if a < b { b } else { a }
+}
+
+pub fn max_usize(a: usize, b: usize) -> usize
+    ensures { λ r. ⌜ r ≡ max a b ⌝ }
+{
+    if a < b { b } else { a }
+}
+
+pub fn min(a: u64, b: u64) -> u64
+    ensures { λ r. ⌜ r ≡ min a b ⌝ }
+{
+    if b < a { b } else { a }
+}
+
+pub fn min_usize(a: usize, b: usize) -> usize
+    ensures { λ r. ⌜ r ≡ min a b ⌝ }
+{
+    if b < a { b } else { a }
+}
+
+pub fn minus(a: u64, b: u64) -> u64
+    ensures { λ r. ⌜ r ≡ a - b ⌝ }
+{
+    if a < b { 0 } else { a - b }
+}
+
+pub fn minus_usize(a: usize, b: usize) -> usize
+    ensures { λ r. ⌜ r ≡ a - b ⌝ }
+{
+    if a < b { 0 } else { a - b }
+}
+
+// The first number where the test passes, else the second: a choice that needs no branch.
+pub fn select(test: bool, first: u64, second: u64) -> u64
+    ensures { λ r. ⌜ r ≡ cond test first second ⌝ }
+{
+    if test { first } else { second }
+}
+
+pub fn select_usize(test: bool, first: usize, second: usize) -> usize
+    ensures { λ r. ⌜ r ≡ cond test first second ⌝ }
+{
+    if test { first } else { second }
+}
 
 fn wide(byte: u8) -> u64
     ensures { λ r. ⌜ (r ≡ byte) × (r < 256) ⌝ }

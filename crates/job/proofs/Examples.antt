@@ -7,7 +7,7 @@ use Prim.Native.Nat.{ℕ, _-_, _/_, _%_, _^_}
 use lib.ListN.{take}
 use Rattle.base.specs.Number.{number}
 use Rattle.base.specs.Range.{sum, some, fold}
-use Rattle.job.specs.Tree.{link, child, hasChild, leaf, inner, meets, below, T, greatestDelay, H, planLength}
+use Rattle.job.specs.Tree.{link, child, hasChild, leaf, meets, below, T, greatestDelay, H, planLength}
 use Rattle.job.specs.Bytes.{mark, version, nodeCount, frameCount, parentAt, delayAt, memoryAt, rateAt, frameAt, wantedLength, perNode, jobOf, treeOf}
 use Rattle.job.specs.Refusal.{refusal}
 
@@ -56,14 +56,10 @@ sums : (T (jobOf listed) 0 ∷ T (jobOf listed) 1 ∷ T (jobOf listed) 2 ∷ T (
 unfolding two four eight header row film treeQ listed number nodeCount frameCount frameAt sum T
 sums = refl
 
--- leaves and inner nodes among 0 to 4
+-- leaves among 0 to 4
 leaves : (leaf (treeOf listed) 0 ∷ leaf (treeOf listed) 1 ∷ leaf (treeOf listed) 2 ∷ leaf (treeOf listed) 3 ∷ leaf (treeOf listed) 4 ∷ []) ≡ (false ∷ false ∷ true ∷ true ∷ false ∷ [])
 unfolding two four eight header row film treeQ listed number nodeCount parentAt perNode some link child hasChild leaf
 leaves = refl
-
-inners : (inner (treeOf listed) 0 ∷ inner (treeOf listed) 1 ∷ inner (treeOf listed) 2 ∷ inner (treeOf listed) 4 ∷ []) ≡ (true ∷ true ∷ false ∷ false ∷ [])
-unfolding two four eight header row film treeQ listed number nodeCount parentAt perNode some link child hasChild inner
-inners = refl
 
 -- what is below node 1, and node 3 below the root; a node is not below itself, nor below its sister
 lower : (below (treeOf listed) 0 1 ∷ below (treeOf listed) 1 1 ∷ below (treeOf listed) 2 1 ∷ below (treeOf listed) 3 1 ∷ below (treeOf listed) 3 0 ∷ below (treeOf listed) 3 2 ∷ [])

@@ -3,4 +3,5 @@ pub mod NodeLaws
 pub mod ReadLaws
 pub mod RefusalLaws
 pub mod SlotLaws
+pub mod SumsLaws
 pub mod TreeLaws

@@ -15,7 +15,7 @@ use Rattle.job.specs.Limits.{fewestNodes, mostNodes, fewestFrames, mostF
 use Rattle.job.specs.Tree.{Tree, TreeWithin, JobWithin, link, child, hasChild, leaf}
 use Rattle.job.specs.Bytes.{markRLY, versionOne, headerWidth, mark, version, nodeCount, frameCount, frameAt, wantedLength, treeOf, jobOf}
 use Rattle.job.specs.Refusal.{outside, parentWrong, delayWrong, amountWrong, frameWrong, someNode, refusal}
-use Rattle.job.specs.Read.{structOf, refusedWith, refusedOr, readOf, treeIn, jobIn, sizeRefusal}
+use Rattle.job.specs.Read.{Accepted, structOf, refusedWith, refusedOr, readOf, treeIn, jobIn, sizeRefusal}
 use Rattle.job.specs.Steps.{parentsOf, orElse, headRefusal, nodesRefusal, restRefusal, Sized}
 use Rattle.job.specs.declared.Job.{Job}
 use Rattle.job.specs.declared.Reading.{Reading}
@@ -224,15 +224,6 @@ pub read-is : (s : List ℕ) (r : Reading) → r ≡ readOf s → r .refusal ≡
 read-is s r e h =
     let z : refusal s ≡ 0 = sym (refusedOr-number (refusal s) (structOf (treeOf s) (frameCount s))) ∙ sym (ap (λ (x : Reading). x .refusal) e) ∙ h in
     (z, ap (λ (x : Reading). x .job) e ∙ rw z refl)
-
--- an accepted job and its struct, as a caller of the reader has them
-pub record Accepted (s : List ℕ) (job : Job) : Type 0 where
-  pub none : refusal s ≡ 0
-  pub held : treeIn job ≡ treeOf s
-  pub frames : job .frames ≡ frameCount s
-  pub tree-within : TreeWithin (treeIn job)
-  pub within : JobWithin (jobOf s)
-  pub same : jobIn job (frameAt s) ≡ jobOf s
 
 pub read-accepts : (s : List ℕ) (r : Reading) → r ≡ readOf s → r .refusal ≡ 0 → Accepted s (r .job)
 read-accepts s r e h =

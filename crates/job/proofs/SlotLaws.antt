@@ -8,7 +8,7 @@ use native.Mathlib.Omega.{arith}
 use Rattle.base.specs.Range.{sum, greatestOver}
 use Rattle.base.specs.Set.{has, wordBits}
 use Rattle.base.proofs.BoolLaws.{not-both, lt-or-le}
-use Rattle.base.proofs.RangeLaws.{sum-le, sum-bound, sum-cong, fold-cong, fold-skip, greatestOver-under, greatestOver-above}
+use Rattle.base.proofs.RangeLaws.{sum-le, sum-bound, fold-cong, fold-skip, greatestOver-under, greatestOver-above}
 use Rattle.job.specs.Limits.{mostNodes, mostFrames, longestDelay, greatestFrame}
 use Rattle.job.specs.Tree.{Tree, JobData, TreeWithin, JobWithin, link, leaf, T, greatestDelay, H, planLength}
 use Rattle.job.proofs.TreeLaws.{link-is, leaf-in, leaf-past, leaf-childless, root-has-child}
@@ -56,11 +56,6 @@ T-bound j w m =
 -- the same as one number, for machine words
 pub T-fits : (j : JobData) → JobWithin j → (m : ℕ) → T j m ≤ mostFrames * greatestFrame
 T-fits j w m = le-trans (T-bound j w m) (mul-le-mul-right greatestFrame (w .frames-to))
-
--- two films with the same frames have the same sums
-pub T-cong : (j k : JobData) → j .M ≡ k .M → ((m : ℕ) → m < j .M → j .frame m ≡ k .frame m) → (m : ℕ) → T j m ≡ T k m
-unfolding T
-T-cong j k e h m = rw (← e) (sum-cong (j .frame) (k .frame) (min m (j .M)) (λ i q. h i (omega arith)))
 
 -- ---- H and the length of a plan
 

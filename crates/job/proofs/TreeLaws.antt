@@ -12,7 +12,7 @@ use borrow.Author.Tests.{lt-ltb, le-ltb, ltb-true, eq-eqb, eqb-true}
 use Rattle.base.specs.Range.{some}
 use Rattle.base.proofs.BoolLaws.{true-or-false, not-both, otherwise, and-left, and-right, and-no-right, or-right, or-cases, lt-or-le}
 use Rattle.base.proofs.RangeLaws.{some-passes, which-passes}
-use Rattle.job.specs.Tree.{Tree, TreeWithin, link, child, hasChild, leaf, inner, meets, below}
+use Rattle.job.specs.Tree.{Tree, TreeWithin, link, child, hasChild, leaf, meets, below}
 
 -- ---- links
 
@@ -73,14 +73,6 @@ leaf-childless t i h = go (hasChild t i) (and-right (ltb i (t .n)) (not (hasChil
 -- nobody's parent
 pub leaf-no-parent : (t : Tree) (i c : ℕ) → leaf t i ≡ true → 0 < c → c < t .n → t .parent c ≡ i → ⊥
 leaf-no-parent t i c h p q e = not-both (rw e at (has-child t c p q)) (leaf-childless t i h)
-
-pub inner-is-no-leaf : (t : Tree) (i : ℕ) → i < t .n → inner t i ≡ not (leaf t i)
-unfolding inner leaf
-inner-is-no-leaf t i h = rw (lt-ltb i (t .n) h) (go (hasChild t i))
-  where
-    go : (b : Bool) → b ≡ not (not b)
-    go true = refl
-    go false = refl
 
 pub leaf-past : (t : Tree) (i : ℕ) → t .n ≤ i → leaf t i ≡ false
 unfolding leaf

@@ -3,4 +3,5 @@ pub mod Tree
 pub mod Bytes
 pub mod Refusal
 pub mod Read
+pub mod Sums
 pub mod Steps

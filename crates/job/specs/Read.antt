@@ -1,14 +1,15 @@
 -- What the code's types hold, in terms of the definitions: a job's struct, and what each constructor and the reader give.
 use mathlib.Core.Bool.{Bool, cond}
 use mathlib.Core.List.{List}
+use mathlib.Core.Path.{_≡_}
 use Prim.Native.Nat.{ℕ}
 use lib.Dec.{eqb}
 use lib.ListN.{getD}
 use Rattle.base.specs.Table.{tab}
 use Rattle.job.specs.Limits.{fewestNodes, mostNodes, fewestFrames, mostFrames, longestDelay, greatestMemory, greatestRate, greatestFrame}
-use Rattle.job.specs.Tree.{Tree, JobData}
-use Rattle.job.specs.Bytes.{frameCount, treeOf}
-use Rattle.job.specs.Refusal.{outside, parentWrong, delayWrong, amountWrong, frameWrong, refusal}
+use Rattle.job.specs.Tree.{Tree, JobData, TreeWithin, JobWithin}
+use Rattle.job.specs.Bytes.{frameCount, frameAt, treeOf, jobOf}
+use Rattle.job.specs.Refusal.{badNodes, badFrames, badParent, badDelay, largeMemory, largeFrame, outside, parentWrong, delayWrong, amountWrong, frameWrong, refusal}
 use Rattle.job.specs.declared.FrameMade.{FrameMade}
 use Rattle.job.specs.declared.FrameMade.the-variants as frame-made
 use Rattle.job.specs.declared.Node.{Node}
@@ -75,16 +76,28 @@ refusedOr number job = cond (eqb number 0) (record { refusal = 0; job = job }) (
 abbrev pub readOf : List ℕ → Reading
 readOf s = refusedOr (refusal s) (structOf (treeOf s) (frameCount s))
 
--- the rows of the table that speak of the counts alone, and those that speak of one node alone
+-- an accepted job and its struct, as a caller of the reader has them
+pub record Accepted (s : List ℕ) (job : Job) : Type 0 where
+  pub none : refusal s ≡ 0
+  pub held : treeIn job ≡ treeOf s
+  pub frames : job .frames ≡ frameCount s
+  pub tree-within : TreeWithin (treeIn job)
+  pub within : JobWithin (jobOf s)
+  pub same : jobIn job (frameAt s) ≡ jobOf s
+
+-- the rows of the table that speak of the counts alone, those that speak of one node alone, and that of a frame
 abbrev pub sizeRefusal : ℕ → ℕ → ℕ
-sizeRefusal n M = cond (outside fewestNodes mostNodes n) 4 (cond (outside fewestFrames mostFrames M) 5 0)
+sizeRefusal n M = cond (outside fewestNodes mostNodes n) badNodes (cond (outside fewestFrames mostFrames M) badFrames 0)
 
 abbrev pub nodeRefusal : ℕ → Bool → Node → ℕ
 nodeRefusal i isLeaf node =
-    cond (parentWrong i (node .parent)) 7
-    (cond (delayWrong isLeaf (node .delay)) 8
-    (cond (amountWrong (node .memory) (node .rate)) 9
+    cond (parentWrong i (node .parent)) badParent
+    (cond (delayWrong isLeaf (node .delay)) badDelay
+    (cond (amountWrong (node .memory) (node .rate)) largeMemory
     0))
+
+abbrev pub frameRefusal : ℕ → ℕ
+frameRefusal size = cond (frameWrong size) largeFrame 0
 
 -- what the constructors give: a job of these counts with empty records, a node, a frame
 abbrev pub newJob : ℕ → ℕ → Reading
@@ -95,3 +108,12 @@ newNode i isLeaf node = cond (eqb (nodeRefusal i isLeaf node) 0) (node-made.Made
 
 abbrev pub newFrame : ℕ → FrameMade
 newFrame size = cond (frameWrong size) frame-made.TooLarge (frame-made.Made (record { size = size }))
+
+-- document 01's number of each: 0 where it was made
+abbrev pub nodeNumber : NodeMade → ℕ
+nodeNumber (node-made.Made node) = 0
+nodeNumber (node-made.Refused number) = number
+
+abbrev pub frameNumber : FrameMade → ℕ
+frameNumber (frame-made.Made frame) = 0
+frameNumber frame-made.TooLarge = largeFrame

@@ -36,10 +36,6 @@ hasChild t i = some (λ c. child t c i) (t .n)
 unfoldable pub leaf : Tree → ℕ → Bool
 leaf t i = ltb i (t .n) && not (hasChild t i)
 
--- an inner node is a node that is no leaf
-unfoldable pub inner : Tree → ℕ → Bool
-inner t i = ltb i (t .n) && hasChild t i
-
 -- going up from node i by parents, at most `steps` times and not past the root, node a is met
 unfoldable pub meets : (ℕ → ℕ) → ℕ → ℕ → ℕ → Bool
 meets parent zero i a = false

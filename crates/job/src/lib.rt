@@ -2,19 +2,24 @@
 // Definitions to believe: specs/Limits, Tree, Bytes, Refusal; what the types below hold: specs/Read.
 ghost use mathlib.Core.Bool.{_&&_, _||_};
 ghost use mathlib.Core.Path.{_≡_};
-ghost use Prim.Native.Nat.{ℕ, _+_, _-_, _*_, _≤_, _<_, max};
-ghost use lib.Dec.{eqb, ltb};
+ghost use Prim.Native.Nat.{ℕ, _+_, _≤_, _<_};
+ghost use lib.Dec.{eqb};
 ghost use lib.ListN.{length, getD};
 ghost use Rattle.base.specs.Range.{some, greatestOver};
 ghost use Rattle.base.specs.Set.{has, wordBits};
-ghost use Rattle.base.specs.Table.{tab};
-ghost use Rattle.job.specs.Limits.{fewestNodes, mostNodes, fewestFrames, mostFrames, longestDelay, greatestMemory, greatestRate, greatestFrame};
+ghost use Rattle.job.specs.Limits as limit;
+ghost use Rattle.job.specs.Limits.{fewestNodes, mostNodes, mostFrames};
 ghost use Rattle.job.specs.Tree as tree;
-ghost use Rattle.job.specs.Tree.{hasChild, child, leaf, below, planLength, TreeWithin};
-ghost use Rattle.job.specs.Bytes.{recordPlace, nodeCount, frameCount, frameAt, treeOf, jobOf};
+ghost use Rattle.job.specs.Tree.{child, leaf, below, planLength, TreeWithin};
+ghost use Rattle.job.specs.Bytes.{recordPlace, nodeCount, frameCount, frameAt, treeOf};
+ghost use Rattle.job.specs.Refusal as refused;
 ghost use Rattle.job.specs.Refusal.{delayWrong, frameWrong, refusal};
-ghost use Rattle.job.specs.Read.{limits, newFrame, newNode, newJob, refusedWith, structOf, bareTree, treeIn, jobIn, refusedOr, readOf};
-ghost use Rattle.job.specs.Steps.{nodeAt, parentsOf, headRefusal, nodesRefusal, restRefusal, sooner, Sized};
+ghost use Rattle.job.specs.Sums.{tinyRoom, shortRoom, middleRoom, longRoom, sumsOf};
+ghost use Rattle.job.specs.Read.{Accepted, limits, newFrame, newNode, newJob, refusedWith};
+ghost use Rattle.job.specs.Read.{nodeRefusal, frameRefusal, nodeNumber, frameNumber};
+ghost use Rattle.job.specs.Read.{structOf, bareTree, treeIn, jobIn, refusedOr, readOf};
+ghost use Rattle.job.specs.Steps.{nodeAt, parentsOf, emptyJob, fullJob, InnerNodes};
+ghost use Rattle.job.specs.Steps.{headRefusal, nodesRefusal, restRefusal, sooner, Sized};
 
 // A frame's size in bytes.
 pub struct Frame {
@@ -28,11 +33,14 @@ pub enum FrameMade {
 
 impl Frame {
     pub const GREATEST: u64 = 16_777_215;
+
+    pub const LARGE_FRAME: u64 = 10;
     // Bytes that a size takes in a job.
     pub const WIDTH: usize = 4;
 
     pub fn new(size: u64) -> FrameMade
         ensures { λ r. ⌜ r ≡ newFrame size ⌝ }
+        ensures { λ r. ⌜ frameNumber r ≡ frameRefusal size ⌝ }
     {
         if Frame::GREATEST < size {
             FrameMade::TooLarge
@@ -73,22 +81,29 @@ impl Node {
     pub const GREATEST_RATE: u64 = Node::GREATEST_MEMORY;
     // Bytes that a record takes in a job.
     pub const WIDTH: usize = 19;
+    // Refusals of a record.
+    pub const BAD_PARENT: u64 = 7;
+
+    pub const BAD_DELAY: u64 = 8;
+
+    pub const LARGE_MEMORY: u64 = 9;
 
     // Node `number` of a tree, where it is known whether that is a leaf.
     pub fn new(number: usize, leaf: bool, node: Node) -> NodeMade
         ensures { λ r. ⌜ r ≡ newNode number leaf node ⌝ }
+        ensures { λ r. ⌜ nodeNumber r ≡ nodeRefusal number leaf node ⌝ }
     {
         if number <= node.parent {
-            return NodeMade::Refused(7);
+            return NodeMade::Refused(Node::BAD_PARENT);
         }
         if delay_wrong(leaf, node.delay) {
-            return NodeMade::Refused(8);
+            return NodeMade::Refused(Node::BAD_DELAY);
         }
         if Node::GREATEST_MEMORY < node.memory {
-            return NodeMade::Refused(9);
+            return NodeMade::Refused(Node::LARGE_MEMORY);
         }
         if Node::GREATEST_RATE < node.rate {
-            return NodeMade::Refused(9);
+            return NodeMade::Refused(Node::LARGE_MEMORY);
         }
         NodeMade::Made(node)
     }
@@ -148,22 +163,36 @@ impl Job {
     pub const VERSION: u64 = 1;
     // Bytes before the first record.
     pub const HEADER: usize = 10;
+    // Refusals of a job's bytes as a whole, and of what is lent beside them.
+    pub const SHORT: u64 = 1;
+
+    pub const BAD_MARK: u64 = 2;
+
+    pub const BAD_VERSION: u64 = 3;
+
+    pub const BAD_NODES: u64 = 4;
+
+    pub const BAD_FRAMES: u64 = 5;
+
+    pub const BAD_LENGTH: u64 = 6;
+
+    pub const BAD_LENT: u64 = 11;
 
     // A job of these counts, its records still empty; or the refusal of a count.
     pub fn new(nodes: usize, frames: usize) -> Reading
         ensures { λ r. ⌜ r ≡ newJob nodes frames ⌝ }
     {
         if nodes < Job::FEWEST_NODES {
-            return refused(4);
+            return refused(Job::BAD_NODES);
         }
         if Job::MOST_NODES < nodes {
-            return refused(4);
+            return refused(Job::BAD_NODES);
         }
         if frames < Job::FEWEST_FRAMES {
-            return refused(5);
+            return refused(Job::BAD_FRAMES);
         }
         if Job::MOST_FRAMES < frames {
-            return refused(5);
+            return refused(Job::BAD_FRAMES);
         }
         Reading {
             refusal: 0,
@@ -174,7 +203,7 @@ impl Job {
     // The nodes that are somebody's parent. Parents may be any numbers here: the reader asks before it has tested them.
     fn inner_nodes(self) -> u64
         requires { ⌜ (fewestNodes ≤ self .nodes) × (self .nodes ≤ mostNodes) ⌝ }
-        ensures { λ r. ⌜ ((k : ℕ) → has r k ≡ (hasChild (treeIn self) k && ltb k wordBits)) ⌝ }
+        ensures { λ r. ⌜ InnerNodes (treeIn self) r ⌝ }
     {
         let nodes = self.nodes;
         let parent = self.parent;
@@ -276,12 +305,6 @@ fn joins(set: u64, parent: usize, a: usize) -> bool
     base::member(set, parent)
 }
 
-fn greater(a: usize, b: usize) -> usize
-    ensures { λ r. ⌜ r ≡ max a b ⌝ }
-{
-    if a < b { b } else { a }
-}
-
 // The greatest of the numbers at the members of a set.
 fn longest(set: u64, delay: &[usize; Job::MOST_NODES]) -> usize
     ensures { λ r. ⌜ r ≡ greatestOver (has set) (λ i. getD (now (delay .entry)) i 0) wordBits ⌝ }
@@ -289,7 +312,7 @@ fn longest(set: u64, delay: &[usize; Job::MOST_NODES]) -> usize
     let mut acc: usize = 0;
     let mut rest = set;
     while rest != 0 {
-        acc = greater(acc, delay[base::lowest(rest)]);
+        acc = base::max_usize(acc, delay[base::lowest(rest)]);
         rest = base::without_lowest(rest);
     }
     acc
@@ -308,20 +331,20 @@ fn head_refusal(s: &[u8]) -> u64
     ensures { λ r. ⌜ r ≡ headRefusal (now (s .entry)) ⌝ }
 {
     if s.len() < Job::HEADER {
-        return 1;
+        return Job::SHORT;
     }
     if base::number_at(s, 0, 3) != Job::MARK {
-        return 2;
+        return Job::BAD_MARK;
     }
     if base::number_at(s, 3, 2) != Job::VERSION {
-        return 3;
+        return Job::BAD_VERSION;
     }
     0
 }
 
 // The job with the parents of its records; the rest of them is still empty.
 fn read_parents(s: &[u8], job: Job) -> Job
-    requires { ⌜ Sized (now s) × (job ≡ structOf (bareTree (nodeCount (now s))) (frameCount (now s))) ⌝ }
+    requires { ⌜ Sized (now s) × (job ≡ emptyJob (now s)) ⌝ }
     ensures { λ r. ⌜ r ≡ structOf (parentsOf (now (s .entry))) (frameCount (now (s .entry))) ⌝ }
 {
     let nodes = job.nodes;
@@ -368,13 +391,13 @@ fn earlier(a: u64, b: u64) -> u64
     if b == 0 {
         return a;
     }
-    if a < b { a } else { b }
+    base::min(a, b)
 }
 
 // The job with its records, or the first of rows 7 to 9, whichever node it is at.
 fn read_nodes(s: &[u8], job: Job, inner: u64) -> Reading
-    requires { ⌜ Sized (now s) × ((job ≡ structOf (bareTree (nodeCount (now s))) (frameCount (now s))) × ((k : ℕ) → has inner k ≡ (hasChild (treeOf (now s)) k && ltb k wordBits))) ⌝ }
-    ensures { λ r. ⌜ r ≡ refusedOr (nodesRefusal (treeOf (now (s .entry)))) (structOf (treeOf (now (s .entry))) (frameCount (now (s .entry)))) ⌝ }
+    requires { ⌜ Sized (now s) × ((job ≡ emptyJob (now s)) × InnerNodes (treeOf (now s)) inner) ⌝ }
+    ensures { λ r. ⌜ r ≡ refusedOr (nodesRefusal (treeOf (now (s .entry)))) (fullJob (now (s .entry))) ⌝ }
 {
     let nodes = job.nodes;
     let mut out = job;
@@ -425,8 +448,8 @@ fn some_frame_wrong(s: &[u8], nodes: usize, frames: usize) -> bool
 
 // Rows 7 to 10, of a job whose counts and length are right.
 fn read_rest(s: &[u8], job: Job) -> Reading
-    requires { ⌜ Sized (now s) × (job ≡ structOf (bareTree (nodeCount (now s))) (frameCount (now s))) ⌝ }
-    ensures { λ r. ⌜ r ≡ refusedOr (restRefusal (now (s .entry))) (structOf (treeOf (now (s .entry))) (frameCount (now (s .entry)))) ⌝ }
+    requires { ⌜ Sized (now s) × (job ≡ emptyJob (now s)) ⌝ }
+    ensures { λ r. ⌜ r ≡ refusedOr (restRefusal (now (s .entry))) (fullJob (now (s .entry))) ⌝ }
 {
     let inner = read_parents(s, job).inner_nodes();
     let read = read_nodes(s, job, inner);
@@ -434,7 +457,7 @@ fn read_rest(s: &[u8], job: Job) -> Reading
         return read;
     }
     if some_frame_wrong(s, job.nodes, job.frames) {
-        return refused(10);
+        return refused(Frame::LARGE_FRAME);
     }
     read
 }
@@ -455,7 +478,7 @@ pub fn read(s: &[u8]) -> Reading
     }
     let job = sized.job;
     if s.len() != record_place(job.nodes) + Frame::WIDTH * job.frames {
-        return refused(6);
+        return refused(Job::BAD_LENGTH);
     }
     read_rest(s, job)
 }
@@ -467,10 +490,53 @@ pub fn refusal(s: &[u8]) -> u64
     read(s).refusal
 }
 
+// Rooms for the sums of a film, cleared. To clear the longest takes longer than the answer to a short film, so there are shorter ones.
+pub const TINY_ROOM: usize = 1_024;
+
+pub const SHORT_ROOM: usize = 4_097;
+
+pub const MIDDLE_ROOM: usize = 16_385;
+
+pub const LONG_ROOM: usize = Job::MOST_FRAMES + 1;
+
+pub fn tiny_room() -> [u64; TINY_ROOM]
+    ensures { λ r. ⌜ length r ≡ tinyRoom ⌝ }
+{
+    [0u64; TINY_ROOM]
+}
+
+pub fn short_room() -> [u64; SHORT_ROOM]
+    ensures { λ r. ⌜ length r ≡ shortRoom ⌝ }
+{
+    [0u64; SHORT_ROOM]
+}
+
+pub fn middle_room() -> [u64; MIDDLE_ROOM]
+    ensures { λ r. ⌜ length r ≡ middleRoom ⌝ }
+{
+    [0u64; MIDDLE_ROOM]
+}
+
+pub fn long_room() -> [u64; LONG_ROOM]
+    ensures { λ r. ⌜ length r ≡ longRoom ⌝ }
+{
+    [0u64; LONG_ROOM]
+}
+
+// T(0) to T(M) of an accepted job, in a room that has place for them: the part of it that has them.
+pub fn sums<'a, 'b>(bytes: &'b [u8], job: Job, room: &'a mut [u64]) -> &'a mut [u64]
+    requires { ⌜ Accepted (now bytes) job × (job .frames < length (now room)) ⌝ }
+    ensures { λ r. ⌜ now r ≡ sumsOf (now (bytes .entry)) ⌝ }
+{
+    let count = job.frames + 1;
+    write_sums(bytes, &mut room[0..count]);
+    &mut room[0..count]
+}
+
 // T(0) to T(M) of an accepted job, one after the other.
-pub fn sums(s: &[u8], out: &mut [u64])
+fn write_sums(s: &[u8], out: &mut [u64])
     requires { ⌜ (refusal (now s) ≡ 0) × (length (now out) ≡ frameCount (now s) + 1) ⌝ }
-    ensures { λ _. ⌜ now (out .exit) ≡ tab (tree.T (jobOf (now (s .entry)))) (frameCount (now (s .entry)) + 1) ⌝ }
+    ensures { λ _. ⌜ now (out .exit) ≡ sumsOf (now (s .entry)) ⌝ }
 {
     let nodes = base::number_at(s, 5, 1);
     let frames = out.len() - 1;
@@ -486,7 +552,8 @@ pub fn sums(s: &[u8], out: &mut [u64])
     }
 }
 
-// Every bound at once. Each is the constant of its type, and the number that specs/Limits has.
+// Every bound at once. Each is the constant of its type, and the number that specs/Limits has; so is each refusal, whose number
+// specs/Refusal has.
 pub struct Limits {
     pub fewest_nodes: usize,
     pub most_nodes: usize,
@@ -501,14 +568,25 @@ pub struct Limits {
 impl Limits {
     pub fn all() -> Limits
         ensures { λ r. ⌜ r ≡ limits ⌝ }
-        ensures { λ _. do ⌜ (← ⟦Job::FEWEST_NODES⟧ .entry) ≡ fewestNodes ⌝ }
-        ensures { λ _. do ⌜ (← ⟦Job::MOST_NODES⟧ .entry) ≡ mostNodes ⌝ }
-        ensures { λ _. do ⌜ (← ⟦Job::FEWEST_FRAMES⟧ .entry) ≡ fewestFrames ⌝ }
-        ensures { λ _. do ⌜ (← ⟦Job::MOST_FRAMES⟧ .entry) ≡ mostFrames ⌝ }
-        ensures { λ _. do ⌜ (← ⟦Node::LONGEST_DELAY⟧ .entry) ≡ longestDelay ⌝ }
-        ensures { λ _. do ⌜ (← ⟦Node::GREATEST_MEMORY⟧ .entry) ≡ greatestMemory ⌝ }
-        ensures { λ _. do ⌜ (← ⟦Node::GREATEST_RATE⟧ .entry) ≡ greatestRate ⌝ }
-        ensures { λ _. do ⌜ (← ⟦Frame::GREATEST⟧ .entry) ≡ greatestFrame ⌝ }
+        ensures { λ _. do ⌜ (← ⟦Job::FEWEST_NODES⟧ .entry) ≡ limit.fewestNodes ⌝ }
+        ensures { λ _. do ⌜ (← ⟦Job::MOST_NODES⟧ .entry) ≡ limit.mostNodes ⌝ }
+        ensures { λ _. do ⌜ (← ⟦Job::FEWEST_FRAMES⟧ .entry) ≡ limit.fewestFrames ⌝ }
+        ensures { λ _. do ⌜ (← ⟦Job::MOST_FRAMES⟧ .entry) ≡ limit.mostFrames ⌝ }
+        ensures { λ _. do ⌜ (← ⟦Node::LONGEST_DELAY⟧ .entry) ≡ limit.longestDelay ⌝ }
+        ensures { λ _. do ⌜ (← ⟦Node::GREATEST_MEMORY⟧ .entry) ≡ limit.greatestMemory ⌝ }
+        ensures { λ _. do ⌜ (← ⟦Node::GREATEST_RATE⟧ .entry) ≡ limit.greatestRate ⌝ }
+        ensures { λ _. do ⌜ (← ⟦Frame::GREATEST⟧ .entry) ≡ limit.greatestFrame ⌝ }
+        ensures { λ _. do ⌜ (← ⟦Job::SHORT⟧ .entry) ≡ refused.short ⌝ }
+        ensures { λ _. do ⌜ (← ⟦Job::BAD_MARK⟧ .entry) ≡ refused.badMark ⌝ }
+        ensures { λ _. do ⌜ (← ⟦Job::BAD_VERSION⟧ .entry) ≡ refused.badVersion ⌝ }
+        ensures { λ _. do ⌜ (← ⟦Job::BAD_NODES⟧ .entry) ≡ refused.badNodes ⌝ }
+        ensures { λ _. do ⌜ (← ⟦Job::BAD_FRAMES⟧ .entry) ≡ refused.badFrames ⌝ }
+        ensures { λ _. do ⌜ (← ⟦Job::BAD_LENGTH⟧ .entry) ≡ refused.badLength ⌝ }
+        ensures { λ _. do ⌜ (← ⟦Node::BAD_PARENT⟧ .entry) ≡ refused.badParent ⌝ }
+        ensures { λ _. do ⌜ (← ⟦Node::BAD_DELAY⟧ .entry) ≡ refused.badDelay ⌝ }
+        ensures { λ _. do ⌜ (← ⟦Node::LARGE_MEMORY⟧ .entry) ≡ refused.largeMemory ⌝ }
+        ensures { λ _. do ⌜ (← ⟦Frame::LARGE_FRAME⟧ .entry) ≡ refused.largeFrame ⌝ }
+        ensures { λ _. do ⌜ (← ⟦Job::BAD_LENT⟧ .entry) ≡ refused.badLent ⌝ }
     {
         Limits {
             fewest_nodes: Job::FEWEST_NODES,

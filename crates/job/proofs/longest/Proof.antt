@@ -24,14 +24,14 @@ low c = first-lt (c .before .loop .rest) (c .before .loop .inv .fits) (omega ari
 lowest-requires : tie.Need-lowest-requires Inv-loop μ-loop
 lowest-requires c κs = search needs
 
-mul-greater : tie.Need-mul-greater Inv-loop μ-loop
-mul-greater c = omega (arith, low (c .before), c .lowest .ensures)
+mul-max-usize : tie.Need-mul-max-usize Inv-loop μ-loop
+mul-max-usize c = omega (arith, low (c .before), c .lowest .ensures)
 
-element-copy-out-greater : tie.Need-element-copy-out-greater Inv-loop μ-loop
-element-copy-out-greater c = omega (arith, low (c .before), c .lowest .ensures)
+element-copy-out-max-usize : tie.Need-element-copy-out-max-usize Inv-loop μ-loop
+element-copy-out-max-usize c = omega (arith, low (c .before), c .lowest .ensures)
 
-greater-requires : tie.Need-greater-requires Inv-loop μ-loop
-greater-requires c κs = search needs
+max-usize-requires : tie.Need-max-usize-requires Inv-loop μ-loop
+max-usize-requires c κs = search needs
 
 without-lowest-requires : tie.Need-without-lowest-requires Inv-loop μ-loop
 without-lowest-requires c κs = search needs
@@ -43,7 +43,7 @@ loop-again : tie.Need-loop-again Inv-loop μ-loop
 loop-again c =
     let b = c .before .before .before .before in
     let s = b .before .loop in
-    rw (c .before .greater .ensures, c .before .before .before .lowest .ensures)
+    rw (c .before .max-usize .ensures, c .before .before .before .lowest .ensures)
     (walk-next _ _ _ (s .rest) (c .without-lowest .result) (s .acc) (s .inv) (omega arith) (c .without-lowest .ensures .1) (c .without-lowest .ensures .0))
 
 returns : tie.Need-returns Inv-loop μ-loop
@@ -57,9 +57,9 @@ longest-spec =
     μ-loop
     loop-holds
     lowest-requires
-    mul-greater
-    element-copy-out-greater
-    greater-requires
+    mul-max-usize
+    element-copy-out-max-usize
+    max-usize-requires
     without-lowest-requires
     loop-less
     loop-again

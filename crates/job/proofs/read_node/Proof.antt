@@ -45,7 +45,7 @@ unfolding parentAt delayAt memoryAt rateAt
 returns c =
     let d = c .before in
     let p = d .before .before .before .before .record-place .ensures in
-    c .new .ensures
+    c .new .ensures .0
     ∙ rw (d .before .before .before .number-at .ensures .0, d .before .before .number-at2 .ensures .0, d .before .number-at3 .ensures .0, d .number-at4 .ensures .0, p) refl
 
 pub read-node-spec : {M : Type 1} → statement M

@@ -56,7 +56,7 @@ returns c =
     let l = b .before .before .loop in
     let st = b .before .before .before .before .before in
     let s = st .args .s .now in
-    let e : frameWrong (frameAt s (l .m)) ≡ true = rw (size-is b) at (frame-large (b .number4-at .result) (sym (c .before .before .new .ensures) ∙ c .enum-told .given .1)) in
+    let e : frameWrong (frameAt s (l .m)) ≡ true = rw (size-is b) at (frame-large (b .number4-at .result) (sym (c .before .before .new .ensures .0) ∙ c .enum-told .given .1)) in
     sym (some-passes (λ x. frameWrong (frameAt s x)) (frameCount s) (l .m) (omega (arith, st .pre .1 .1)) e)
 
 enum-told-2 : tie.Need-enum-told-2 Inv-loop μ-loop
@@ -81,7 +81,7 @@ loop-again c =
     let l = b .before .before .loop in
     let st = b .before .before .before .before .before in
     let s = st .args .s .now in
-    let e : frameWrong (frameAt s (l .m)) ≡ false = rw (size-is b) at (frame-fits (b .number4-at .result) (c .enum-told2 .given .0 .0) (sym (c .before .before .new .ensures) ∙ c .enum-told2 .given .1)) in
+    let e : frameWrong (frameAt s (l .m)) ≡ false = rw (size-is b) at (frame-fits (b .number4-at .result) (c .enum-told2 .given .0 .0) (sym (c .before .before .new .ensures .0) ∙ c .enum-told2 .given .1)) in
     (omega arith, (omega (arith, l .inv .1 .0), rw (add-one, l .inv .1 .1, e) refl))
 
 returns-2 : tie.Need-returns-2 Inv-loop μ-loop

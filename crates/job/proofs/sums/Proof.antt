@@ -1,154 +1,64 @@
 use mathlib.Core.Path.{_≡_, ap, sym, _∙_}
-use Prim.Native.Nat.{ℕ, _+_, _-_, _*_, _≤_}
-use native.Mathlib.Omega.{arith}
-use lib.ListN.{length, set, length-set}
-use borrow.Author.Needs.{needs}
-use Rattle.base.proofs.TableLaws.{filled-none, filled-more, filled-again, filled-done}
-use Rattle.base.specs.Table.{tab, Filled}
-use Rattle.job.proofs.SlotLaws.{T-zero, T-suc, T-fits}
-use Rattle.job.proofs.RefusalLaws.{accepted-sized, accepted-within}
-use Rattle.job.proofs.ReadLaws.{header-in, frame-in}
-use Rattle.job.specs.Bytes.{nodeCount, frameCount, framesPlace, frameWidth, frameAt, jobOf}
+use mathlib.Core.List.{List, _++_}
+use Prim.Native.Nat.{ℕ, _+_, _-_}
+use lib.ListN.{length, take}
+use lib.Seq.{take-at, length-take-le}
+use Rattle.base.proofs.TableLaws.{length-tab}
 use Rattle.job.specs.Tree.{T}
+use Rattle.job.specs.Bytes.{jobOf}
+use native.Mathlib.Omega.{arith}
+use borrow.Author.Needs.{needs}
 use Rattle.job.proofs.sums.Statement.{statement}
 use Rattle.job.proofs.sums.Tie as tie
+use Rattle.job.proofs.sums.Reads as reads
+use Rattle.job.proofs.sums.Lts as lts
+use Rattle.job.proofs.write_sums.Reads as write-sums-reads
 
-abbrev Inv-loop : tie.InvT-loop
-Inv-loop s out₀ nodes frames at₀ total₀ m₀ out at total m =
-    (frames ≡ frameCount s)
-    × ((length out₀ ≡ frames + 1)
-    × ((m ≤ frames)
-    × ((at ≡ framesPlace s + frameWidth * m) × ((total ≡ T (jobOf s) m) × Filled (T (jobOf s)) (m + 1) out₀ out))))
+add-count : tie.Need-add-count
+add-count c = search needs
 
-abbrev μ-loop : tie.MeasureT-loop
-μ-loop s out₀ nodes frames at₀ total₀ m₀ out at total m = frames - m
+sub-write-sums : tie.Need-sub-write-sums
+sub-write-sums c = search needs
 
-nodes-is : (c : tie.After-number-at Inv-loop μ-loop) → c .number-at .result ≡ nodeCount (c .before .before .before .args .s .now)
-unfolding nodeCount
-nodes-is c = c .number-at .ensures .0
+part-write-sums-start : tie.Need-part-write-sums-start
+part-write-sums-start c = search needs
 
--- the frame that a turn reads lies within the bytes
-inside : (c : tie.In-loop Inv-loop μ-loop) → c .before .loop .at + frameWidth ≤ length (c .before .before .before .before .before .before .args .s .now)
-inside c =
-    let l = c .before .loop in
-    let st = c .before .before .before .before .before .before in
-    omega (arith, frame-in (st .args .s .now) (accepted-sized (st .args .s .now) (st .pre .0)) (l .m) (omega (arith, l .inv .0)))
+part-write-sums-end : tie.Need-part-write-sums-end
+part-write-sums-end c = search needs
 
--- the sum that a turn reaches
-next : (c : tie.After-number4-at Inv-loop μ-loop) → let l = c .before .before .loop in
-    l .total + c .number4-at .result ≡ T (jobOf (c .before .before .before .before .before .before .before .args .s .now)) (l .m + 1)
-unfolding frameAt
-next c =
-    let l = c .before .before .loop in
-    let s = c .before .before .before .before .before .before .before .args .s .now in
-    rw (l .inv .1 .1 .1 .1 .0, c .number4-at .ensures .0, l .inv .1 .1 .1 .0) (sym (T-suc (jobOf s) (l .m) (omega (arith, l .inv .0))))
-
-number-at-requires : tie.Need-number-at-requires Inv-loop μ-loop
-number-at-requires c κs =
-    let st = c .before .before in
-    omega (arith, header-in (st .args .s .now) (accepted-sized (st .args .s .now) (st .pre .0)))
-
-sub-frames : tie.Need-sub-frames Inv-loop μ-loop
-sub-frames c = search needs
-
-record-place-requires : tie.Need-record-place-requires Inv-loop μ-loop
-record-place-requires c κs =
-    let st = c .before .before .before in
-    let z = accepted-sized (st .args .s .now) (st .pre .0) in
-    omega (arith, z .nodes-from, z .nodes-to, nodes-is c)
-
-slice-write-out : tie.Need-slice-write-out Inv-loop μ-loop
-slice-write-out c = omega arith
-
-loop-holds : tie.Need-loop-holds Inv-loop μ-loop
-loop-holds c =
+write-sums-requires : tie.Need-write-sums-requires
+write-sums-requires c κs =
     let st = c .before .before .before .before in
-    let s = st .args .s .now in
-    let l = st .args .out .now in
-    let first : Filled (T (jobOf s)) (0 + 1) l (set l 0 0) = rw (T-zero (jobOf s)) at (filled-more (T (jobOf s)) 0 l l (filled-none (T (jobOf s)) l) (omega arith)) in (
-      omega arith,
-      (
-        length-set l 0 0 ∙ omega arith,
-        (
-          omega arith,
-          (c .record-place .ensures ∙ rw (nodes-is (c .before)) (omega arith), (sym (T-zero (jobOf s)), filled-again (T (jobOf s)) (0 + 1) l (set l 0 0) first)),
-        ),
-      ),
-    )
+    let count = st .args .job .frames + 1 - 0 in
+    (st .pre .0 .none, length-take-le count (st .args .room .now) (omega (arith, st .pre .1)) ∙ omega (arith, st .pre .0 .frames))
 
-number4-at-requires : tie.Need-number4-at-requires Inv-loop μ-loop
-number4-at-requires c κs = omega (arith, inside c)
+sub-result : tie.Need-sub-result
+sub-result c = search needs
 
-add-total : tie.Need-add-total Inv-loop μ-loop
-add-total c =
-    let st = c .before .before .before .before .before .before .before in
-    let s = st .args .s .now in
-    omega (arith, next c, T-fits (jobOf s) (accepted-within s (st .pre .0)) (c .before .before .loop .m + 1))
+part-room-start : tie.Need-part-room-start
+part-room-start c = search needs
 
-add-at : tie.Need-add-at Inv-loop μ-loop
-add-at c = omega (arith, inside (c .before))
+part-room-end : tie.Need-part-room-end
+part-room-end c = search needs
 
-add-m : tie.Need-add-m Inv-loop μ-loop
-add-m c = search needs
-
-mul-out : tie.Need-mul-out Inv-loop μ-loop
-mul-out c = search needs
-
-slice-write-out-2 : tie.Need-slice-write-out-2 Inv-loop μ-loop
-slice-write-out-2 c =
-    let l = c .before .before .loop in
-    omega (arith, l .inv .1 .0, l .inv .1 .1 .1 .1 .1 .1 .0)
-
-loop-less : tie.Need-loop-less Inv-loop μ-loop
-loop-less c = search needs
-
-loop-again : tie.Need-loop-again Inv-loop μ-loop
-loop-again c =
-    let l = c .before .before .loop in
-    let s = c .before .before .before .before .before .before .before .args .s .now in (
-      l .inv .0,
-      (
-        l .inv .1 .0,
-        (
-          omega arith,
-          (
-            omega (arith, l .inv .1 .1 .1 .0),
-            (next c, rw (next c) (filled-more (T (jobOf s)) (l .m + 1) _ (l .out) (l .inv .1 .1 .1 .1 .1) (omega (arith, l .inv .1 .0)))),
-          ),
-        ),
-      ),
-    )
-
-same-length : tie.Need-same-length Inv-loop μ-loop
-same-length c =
-    let l = c .before .loop in
-    l .inv .1 .1 .1 .1 .1 .1 .0 ∙ length-set (c .before .before .before .before .before .before .args .out .now) 0 0
-
-returns : tie.Need-returns Inv-loop μ-loop
+returns : tie.Need-returns
 returns c =
-    let l = c .before .loop in
-    let s = c .before .before .before .before .before .before .args .s .now in
-    filled-done (T (jobOf s)) (l .m + 1) _ (l .out) (l .inv .1 .1 .1 .1 .1) (omega (arith, l .inv .1 .0))
-    ∙ ap (tab (T (jobOf s))) (l .inv .1 .0 ∙ ap (λ (n : ℕ). n + 1) (l .inv .0))
+    let st = c .before .before .before .before .before .before .before .before in
+    let w = c .before .before .before .write-sums in
+    let s = st .args .bytes .now in
+    let long : length (w .last .1 .0) ≡ st .args .job .frames + 1 - 0 = ap length (w .ensures) ∙ length-tab (T (jobOf s)) _ ∙ omega (arith, st .pre .0 .frames) in
+    take-at (w .last .1 .0) _ (st .args .job .frames + 1 - 0) long ∙ w .ensures
 
 pub sums-spec : {M : Type 1} → statement M
 sums-spec =
     tie.close
     (tie.spec
-    Inv-loop
-    μ-loop
-    number-at-requires
-    sub-frames
-    record-place-requires
-    slice-write-out
-    loop-holds
-    number4-at-requires
-    add-total
-    add-at
-    add-m
-    mul-out
-    slice-write-out-2
-    loop-less
-    loop-again
-    same-length
+    add-count
+    sub-write-sums
+    part-write-sums-start
+    part-write-sums-end
+    write-sums-requires
+    sub-result
+    part-room-start
+    part-room-end
     returns)

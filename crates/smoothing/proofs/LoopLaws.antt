@@ -1,5 +1,5 @@
--- What links loops to the definitions: one turn of each pass, on families, on a list with a number for each node and on rows one
--- after the other in one list; and a lazy row filled from its end.
+-- What links loops to the definitions: one turn of each pass, on families and on rows one after the other in one list; and a lazy row
+-- filled from its end.
 use mathlib.Core.Path.{_≡_, refl, sym, ap, fun-ext, _∙_}
 use mathlib.Core.Logic.{_≢_}
 use mathlib.Core.List.{List, [], _∷_, _++_, append-assoc, append-nil}
@@ -7,13 +7,13 @@ use Prim.Native.Nat.{ℕ, zero, suc, _+_, _-_, _*_, _≤_, _<_, max, min}
 use native.Mathlib.Omega.{arith}
 use native.Mathlib.Decide.{ℕ-discrete, decLe, decLt}
 use lib.ListN.{length, take, drop, getD, set, length-set}
-use lib.Seq.{getD-set-same, getD-set-other, take-suc, drop-cons, set-at, length-take-le, take-length, drop-length}
+use lib.Seq.{take-suc, drop-cons, set-at, length-take-le, take-length, drop-length}
 use Rattle.base.specs.Table.{tab, rowsOf}
 use Rattle.base.proofs.TableLaws.{length-tab, getD-tab, row-end}
 use Rattle.base.proofs.PartLaws.{part-before, part-inside, part-after, rows-of-cells}
 use Rattle.smoothing.specs.Tree.{put, unlessRoot, turnUp, turnDown, passUp, passDown}
 use Rattle.smoothing.specs.Row.{lazy}
-use Rattle.smoothing.specs.Lists.{familyIn, rowsIn, FilledFrom}
+use Rattle.smoothing.specs.Lists.{rowsIn, FilledFrom}
 use Rattle.smoothing.proofs.PassLaws.{put-same, put-other, unlessRoot-root, unlessRoot-inner}
 use Rattle.smoothing.proofs.LazyLaws.{lazy-last, lazy-back}
 
@@ -68,26 +68,6 @@ module _ (parent : ℕ → ℕ) (op : ℕ → ℕ → ℕ → ℕ) where
   pub passDown-none : (f : ℕ → ℕ) (i : ℕ) → i ≡ 0 → f ≡ passDown parent op i f
   unfolding passDown
   passDown-none f i e = rw e
-
--- ---- on a list with a number for each node
-
--- a store in the list replaces one place of its family
-pub familyIn-set : (l : List ℕ) (u x : ℕ) → u < length l → familyIn (set l u x) ≡ put (familyIn l) u x
-familyIn-set l u x h = fun-ext (λ v. go v (ℕ-discrete v u))
-  where
-    go : (v : ℕ) → Dec (v ≡ u) → familyIn (set l u x) v ≡ put (familyIn l) u x v
-    go v (yes e) = rw e (getD-set-same l u x 0 h ∙ sym (put-same (familyIn l) u x))
-    go v (no ne) = getD-set-other l u v x 0 ne ∙ sym (put-other (familyIn l) u x v ne)
-
-module _ (parent : ℕ → ℕ) (op : ℕ → ℕ → ℕ → ℕ) (l : List ℕ) (i : ℕ) (p : 0 < i) (ne : parent i ≢ 0) where
-  pub passUp-turn-list : parent i < length l → let u = parent i in
-      passUp parent op i (familyIn l) ≡ passUp parent op (i - 1) (familyIn (set l u (op i (familyIn l u) (familyIn l i))))
-  passUp-turn-list h =
-      passUp-turn parent op i p (familyIn l) ne ∙ ap (passUp parent op (i - 1)) (sym (familyIn-set l (parent i) _ h))
-
-  pub passDown-turn-list : i < length l → (f : ℕ → ℕ) → familyIn l ≡ passDown parent op (i - 1) f
-      → familyIn (set l i (op i (familyIn l i) (familyIn l (parent i)))) ≡ passDown parent op i f
-  passDown-turn-list h f q = familyIn-set l i _ h ∙ passDown-turn parent op i p f (familyIn l) ne q
 
 -- ---- on rows one after the other in one list
 

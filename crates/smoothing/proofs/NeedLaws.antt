@@ -2,21 +2,16 @@
 use mathlib.Core.Path.{_≡_, sym, ap, fun-ext, _∙_}
 use mathlib.Core.Logic.{_≢_}
 use mathlib.Core.Bool.{true}
-use Prim.Native.Nat.{ℕ, suc, _+_, _-_, _≤_, _<_, min}
+use Prim.Native.Nat.{ℕ, suc, _+_, _-_, _≤_, _<_}
 use native.Mathlib.Omega.{arith}
 use native.Mathlib.Decide.{decLe}
 use Rattle.base.proofs.RangeLaws.{some-passes, leastOver-below, Attained, leastOver-attained}
-use Rattle.smoothing.specs.Tree.{Link, within, passUp}
+use Rattle.smoothing.specs.Tree.{Link, within}
 use Rattle.smoothing.specs.Row.{lazy}
 use Rattle.smoothing.specs.Rates.{RateQuestion, WellFormedRates, D, floorRate, need, memory}
-use Rattle.smoothing.proofs.PassLaws.{ParentsLower, TurnLaws, passUp-above, passUp-stable, passUp-keeps}
 use Rattle.smoothing.proofs.RowLaws.{grow-over, greatestExcess-above, greatestExcess-least}
 use Rattle.smoothing.proofs.LazyLaws.{from-last, lazy-last, lazy-back, lazy-grows, lazy-faster}
-use Rattle.smoothing.proofs.BelowLaws.{within-self, within-child, within-positive, within-induct}
-
--- the turns of a pass up with min obey the order ≥
-min-turns : TurnLaws (λ x y. y ≤ x) (λ c x y. min x y) (λ c x y. x)
-min-turns = omega arith
+use Rattle.smoothing.proofs.BelowLaws.{within-self, within-child, within-induct}
 
 module _ (Q : RateQuestion) (good : WellFormedRates Q) where
   open RateQuestion Q using (n, parent, r, M, T)
@@ -48,30 +43,6 @@ module _ (Q : RateQuestion) (good : WellFormedRates Q) where
       (within-child n parent ordered u v h (within-self n parent ordered u g))
       (λ x l i. within-child n parent ordered u x l) (low .0) (low .1) (low .2) in
       omega (arith, floorRate-below u (low .0) (low .1) below, low .3)
-
-  -- the pass up with min gives the floor rates
-  pub floorRate-pass : (v : ℕ) → Link n v → passUp parent (λ c x y. min x y) (n - 1) r v ≡ floorRate Q v
-  floorRate-pass v h =
-      let low = floorRate-attained v h in
-      let lower : ParentsLower (n - 1) parent = λ c q l. ordered c (omega arith) in
-      let fold = passUp parent (λ c x y. min x y) (n - 1) r in
-      let along : fold v ≤ fold (low .0) =
-      within-induct n parent ordered v h (λ x. fold v ≤ fold x) (omega arith)
-      (λ x l i ih. omega (
-        arith,
-        ih,
-        passUp-stable _ _ _ min-turns parent (n - 1) lower r x (l .0) (omega arith)
-            (omega (arith, within-positive n parent ordered v h (parent x) i)),
-      )) (low .0) (low .1) (low .2) in
-      omega (
-        arith,
-        along,
-        low .3,
-        passUp-above _ _ _ min-turns parent (n - 1) r (low .0),
-        passUp-keeps parent (λ c x y. min x y) (n - 1) lower (λ c x. floorRate Q c ≤ x)
-            (λ c q l ne x y a d. omega (arith, floorRate-parent c (omega arith) ne))
-            (n - 1) (omega arith) r (λ c q l. floorRate-own c (omega arith)) v (h .0) (omega arith),
-      )
 
   -- ---- the play-out row never falls
 

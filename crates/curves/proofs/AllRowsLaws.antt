@@ -1,24 +1,25 @@
 -- Laws of the upper rows of all links, filled in two passes over the tree, and of a lower row that comes from its parent's.
-use mathlib.Core.Bool.{Bool, true, false, cond}
+use mathlib.Core.Bool.{true, false}
 use mathlib.Core.Path.{_≡_, refl, ap, sym, _∙_}
 use mathlib.Core.Logic.{_≢_}
 use mathlib.Core.List.{List, _++_}
-use Prim.Native.Nat.{ℕ, zero, suc, _+_, _-_, _*_, _≤_, _<_, max, min}
+use Prim.Native.Nat.{ℕ, zero, suc, _+_, _-_, _*_, _≤_, _<_, max}
 use native.Mathlib.Omega.{arith}
 use native.Mathlib.Decide.{decLt}
 use lib.ListN.{length, getD, set, List·getD-append, length-append}
 use lib.Seq.{getD-append-add}
 use Rattle.base.specs.Table.{tab, rowsOf}
-use Rattle.base.proofs.TableLaws.{length-tab, length-rows, getD-tab, getD-rows, tab-cong}
+use Rattle.base.proofs.TableLaws.{length-tab, getD-tab, getD-rows, tab-cong}
 use Rattle.base.proofs.PartLaws.{rows-of-cells}
 use Rattle.job.specs.Limits.{greatestTotal}
 use Rattle.job.specs.Tree.{Tree, TreeWithin, leaf}
 use Rattle.smoothing.specs.Tree.{Link, «open»}
-use Rattle.smoothing.specs.Plan.{Problem, upper}
+use Rattle.smoothing.specs.Plan.{upper}
 use Rattle.smoothing.proofs.ClosedLaws.{open-monotone}
 use Rattle.rows.specs.Row.{InRange}
 use Rattle.rows.specs.Closing.{slotIn}
-use Rattle.curves.specs.Curves.{Film, lowerCurve, upperCurve, high, problem}
+use Rattle.curves.specs.Curves.{lowerCurve, upperCurve, high, problem}
+use Rattle.job.specs.Sums.{Film}
 use Rattle.curves.specs.Rows.{leastDelay, raised, lowered, roof, highRows, upperRows, leafLower}
 use Rattle.curves.proofs.LowerLaws.{parent-lower, D-leaf, lower-step}
 use Rattle.curves.proofs.UpperLaws.{high-under}

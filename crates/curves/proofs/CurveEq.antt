@@ -1,22 +1,23 @@
 -- Document 01's curves are those of the theory: the lower curve is the close of `low`, the upper curve the open of `high`. Each is the
 -- least, or the greatest, closed family of its kind, and there is only one. Then what follows where T is a film's.
-use mathlib.Core.Bool.{Bool, true, false}
+use mathlib.Core.Bool.{true, false}
 use mathlib.Core.Path.{_≡_, refl, ap, sym, _∙_}
 use mathlib.Core.Logic.{⊎-elim}
-use Prim.Native.Nat.{ℕ, zero, suc, _+_, _-_, _≤_, _<_, max, min}
+use Prim.Native.Nat.{ℕ, zero, suc, _+_, _-_, _≤_, _<_}
 use native.Mathlib.Omega.{arith}
-use Rattle.base.specs.Range.{some, leastOver}
+use Rattle.base.specs.Range.{leastOver}
 use Rattle.base.proofs.BoolLaws.{true-or-false}
 use Rattle.base.proofs.RangeLaws.{leastOver-below, leastOver-attained}
 use Rattle.job.specs.Tree.{Tree, TreeWithin, leaf}
 use Rattle.job.proofs.TreeLaws.{leaf-in}
-use Rattle.smoothing.specs.Tree.{Link, Ordered, close, «open»}
-use Rattle.smoothing.specs.Plan.{Problem, WellFormed, lower, upper}
+use Rattle.smoothing.specs.Tree.{Link}
+use Rattle.smoothing.specs.Plan.{WellFormed, lower, upper}
 use Rattle.smoothing.specs.Row.{lazyBefore, lazy}
 use Rattle.smoothing.proofs.ClosedLaws.{close-least-above, open-greatest-below, closed-constant}
-use Rattle.curves.specs.Curves.{Film, leafBelow, plays, D, lowerCurve, upperCurve, low, high, problem, lazyIn, lazySchedule}
+use Rattle.curves.specs.Curves.{leafBelow, plays, D, lowerCurve, upperCurve, low, high, problem, lazyIn, lazySchedule}
+use Rattle.job.specs.Sums.{Film}
 use Rattle.curves.specs.Rows.{leastDelay}
-use Rattle.curves.proofs.LowerLaws.{parent-lower, leaf-below-in, some-leaf, D-leaf, D-inner, D-above, D-under, low-under-D, lower-is-least}
+use Rattle.curves.proofs.LowerLaws.{parent-lower, leaf-below-in, some-leaf, D-leaf, D-above, D-under, low-under-D, lower-is-least}
 use Rattle.curves.proofs.UpperLaws.{upper-is-greatest}
 
 module _ (t : Tree) (w : TreeWithin t) (T : ℕ → ℕ) (top H : ℕ) where

@@ -1,10 +1,10 @@
 -- Laws of the least delay of the leaves at or below a node, as a walk over their set finds it.
-use mathlib.Core.Bool.{Bool, true, false, cond, _&&_}
-use mathlib.Core.Path.{_≡_, refl, ap, sym, _∙_}
-use mathlib.Core.Logic.{_⊎_, inl, inr, ⊎-elim}
+use mathlib.Core.Bool.{true, false, _&&_}
+use mathlib.Core.Path.{_≡_, sym, _∙_}
+use mathlib.Core.Logic.{_⊎_, ⊎-elim}
 use Prim.Native.Nat.{ℕ, zero, suc, _≤_, _<_, _^_, min}
 use native.Mathlib.Omega.{arith}
-use Rattle.base.specs.Range.{some, first, fold, leastOver}
+use Rattle.base.specs.Range.{first, fold}
 use Rattle.base.specs.Set.{has, wordBits}
 use Rattle.base.proofs.BoolLaws.{true-or-false, not-both, otherwise}
 use Rattle.base.proofs.RangeLaws.{some-passes, all-fail, fold-cong, fold-skip, fold-least}

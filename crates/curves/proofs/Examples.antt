@@ -9,8 +9,9 @@ use Rattle.base.specs.Table.{tab}
 use Rattle.job.specs.Tree.{Tree, link, child, hasChild, leaf, meets, below}
 use Rattle.smoothing.specs.Tree.{put, unlessRoot, turnUp, turnDown, passUp, passDown, close, «open»}
 use Rattle.smoothing.specs.Plan.{lower, upper}
-use Rattle.curves.specs.Curves.{leafBelow, D, lowerIn, lowerCurve, roomIn, room, leastUp, upperCurve, low, high, problem, lazyIn, lazySchedule, sumsIn, lastIn}
-use Rattle.curves.specs.Rows.{leastDelay, atOrBelow, apartIn, apart}
+use Rattle.curves.specs.Curves.{leafBelow, D, lowerIn, lowerCurve, roomIn, room, leastUp, upperCurve, low, high, problem, lazyIn, lazySchedule}
+use Rattle.job.specs.Sums.{sumsIn, lastIn}
+use Rattle.curves.specs.Rows.{leastDelay}
 
 -- a tree from the parents, delays and memories of its nodes, the root's first
 abbrev treeWith : List ℕ → List ℕ → List ℕ → Tree
@@ -117,11 +118,6 @@ two-up-lower = refl
 least-delays : leastDelay (Q 1 4 0 6) 1 ∷ leastDelay (Q 1 4 0 6) 2 ∷ leastDelay (Q 1 4 0 6) 3 ∷ [] ≡ 0 ∷ 0 ∷ 1 ∷ []
 unfolding leastDelay leafBelow some leastOver link child hasChild leaf meets below
 least-delays = refl
-
--- seen from leaf 3, leaf 2 is apart by the memory of node 1, where their paths meet, and by no other
-apart-Q : apart (Q 1 4 0 6) (λ v. atOrBelow (Q 1 4 0 6) v 3) 2 ∷ apart (Q 1 4 0 6) (λ v. atOrBelow (Q 1 4 0 6) v 3) 3 ∷ [] ≡ 4 ∷ 0 ∷ []
-unfolding apart apartIn atOrBelow meets below
-apart-Q = refl
 
 -- ---- the lazy schedule
 

@@ -1,21 +1,19 @@
 -- Laws of D and of the lower curve: it is the least closed family that is nowhere below `low`.
-use mathlib.Core.Bool.{Bool, true, false, cond, _&&_}
-use mathlib.Core.Path.{_≡_, refl, ap, sym, _∙_}
-use mathlib.Core.Logic.{_≢_, _⊎_, inl, inr, ⊎-elim}
-use Prim.Native.Nat.{ℕ, zero, suc, _+_, _-_, _≤_, _<_, max, min}
+use mathlib.Core.Bool.{true, false}
+use mathlib.Core.Path.{_≡_, refl}
+use mathlib.Core.Logic.{_≢_, _⊎_, ⊎-elim}
+use Prim.Native.Nat.{ℕ, zero, suc, _-_, _≤_, _<_, max}
 use native.Mathlib.Omega.{arith}
 use native.Mathlib.Decide.{ℕ-discrete}
-use borrow.Author.Tests.{eq-eqb, ne-eqb, eqb-true}
+use borrow.Author.Tests.{eq-eqb, ne-eqb}
 use lib.Dec.{eqb}
-use Rattle.base.specs.Range.{some, greatestOver, leastOver}
+use Rattle.base.specs.Range.{some, greatestOver}
 use Rattle.base.proofs.BoolLaws.{true-or-false, not-both, otherwise, and-left, and-right, lt-or-le}
-use Rattle.base.proofs.RangeLaws.{some-passes, greatestOver-above, greatestOver-under, leastOver-below, leastOver-attained}
-use Rattle.job.specs.Tree.{Tree, TreeWithin, link, leaf, hasChild, below}
-use Rattle.job.proofs.TreeLaws.{link-is, leaf-in, leaf-or-child, leaf-no-parent, leaf-childless, below-in, below-step, child-below, below-cases, below-trans, below-lower, inner-has-leaf}
-use Rattle.smoothing.specs.Tree.{Link, Ordered, Closed, AtMost, LeastClosedAbove, close}
-use Rattle.smoothing.specs.Plan.{Problem, lower}
-use Rattle.smoothing.proofs.ClosedLaws.{close-least-above}
-use Rattle.curves.specs.Curves.{Film, leafBelow, plays, D, lowerIn, lowerCurve, low, problem}
+use Rattle.base.proofs.RangeLaws.{some-passes, greatestOver-above, greatestOver-under}
+use Rattle.job.specs.Tree.{Tree, TreeWithin, leaf, hasChild, below}
+use Rattle.job.proofs.TreeLaws.{link-is, leaf-in, leaf-or-child, leaf-no-parent, below-in, child-below, below-cases, below-trans, inner-has-leaf}
+use Rattle.smoothing.specs.Tree.{Link, Closed, LeastClosedAbove}
+use Rattle.curves.specs.Curves.{leafBelow, plays, D, lowerIn, lowerCurve, low, problem}
 
 module _ (t : Tree) (w : TreeWithin t) where
   -- the parent of a link is lower
@@ -92,7 +90,7 @@ module _ (t : Tree) (w : TreeWithin t) where
         ⊎-elim
         (λ (e : eqb (t .parent i) 0 ≡ true). rw e)
         (λ (e : eqb (t .parent i) 0 ≡ false).
-        rw (e, lower-enough s r (t .parent i) k (omega arith) (omega arith) (positive e, omega arith)))
+        rw e (omega (arith, lower-enough s r (t .parent i) k (omega arith) (omega arith) (positive e, omega arith))))
         (true-or-false (eqb (t .parent i) 0))
       where
         positive : eqb (t .parent i) 0 ≡ false → 0 < t .parent i
@@ -109,7 +107,8 @@ module _ (t : Tree) (w : TreeWithin t) where
     lower-step zero k h ne = absurd (omega arith)
     lower-step (suc i) k h ne =
         let l = parent-lower (suc i) h in
-        rw (ne-eqb (t .parent (suc i)) 0 ne, lower-enough i (t .parent (suc i)) (t .parent (suc i)) k (omega arith) (omega arith) (omega arith))
+        rw (ne-eqb (t .parent (suc i)) 0 ne)
+        (omega (arith, lower-enough i (t .parent (suc i)) (t .parent (suc i)) k (omega arith) (omega arith) (omega arith)))
 
     -- a node has no less than its D, and a child no less than its parent less the parent's memory
     pub lower-above-D : (i k : ℕ) → Link (t .n) i → D t T i k ≤ lowerCurve t T i k

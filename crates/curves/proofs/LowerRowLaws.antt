@@ -1,6 +1,6 @@
 -- Laws of the loop that fills a row with the lower curve of node i: it goes up from i and takes in one ancestor after the other.
 use mathlib.Core.Bool.{cond}
-use mathlib.Core.Path.{_≡_, refl, ap, sym, _∙_}
+use mathlib.Core.Path.{_≡_, refl, _∙_}
 use mathlib.Core.List.{List}
 use mathlib.Core.Logic.{_≢_, ⊎-elim}
 use Prim.Native.Nat.{ℕ, _+_, _-_, _*_, _≤_, _<_, max, min}
@@ -16,7 +16,8 @@ use Rattle.job.specs.Limits.{greatestMemory}
 use Rattle.job.specs.Tree.{Tree, TreeWithin}
 use Rattle.job.proofs.TreeLaws.{link-is}
 use Rattle.smoothing.specs.Tree.{Link}
-use Rattle.curves.specs.Curves.{Film, D, lowerCurve}
+use Rattle.curves.specs.Curves.{lowerCurve}
+use Rattle.job.specs.Sums.{Film}
 use Rattle.curves.specs.Rows.{leastDelay, raised}
 use Rattle.curves.proofs.LowerLaws.{parent-lower, lower-root, lower-step}
 use Rattle.curves.proofs.CurveEq.{D-delay}

@@ -1,6 +1,6 @@
 -- Laws of a row of which a lent part is filled anew: each place is before the part, within it or after it.
-use mathlib.Core.Path.{_≡_, refl, ap, sym, _∙_}
-use mathlib.Core.List.{List, _++_}
+use mathlib.Core.Path.{_≡_, refl, sym, _∙_}
+use mathlib.Core.List.{List}
 use mathlib.Core.Logic.{⊎-elim}
 use Prim.Native.Nat.{ℕ, _+_, _-_, _≤_, _<_, max, min}
 use native.Mathlib.Omega.{arith}
@@ -11,10 +11,10 @@ use Rattle.base.specs.Table.{tab}
 use Rattle.base.proofs.BoolLaws.{lt-or-le}
 use Rattle.base.proofs.PartLaws.{part-before, part-inside, part-after}
 use Rattle.base.proofs.TableLaws.{length-tab, getD-tab}
-use Rattle.curves.specs.Curves.{HoldsSums, sumsIn, lastIn}
+use Rattle.job.specs.Sums.{HoldsSums, sumsIn, lastIn}
 use Rattle.curves.specs.Rows.{raised, lowered}
 use Rattle.curves.proofs.RowLaws.{row-is}
-use Rattle.curves.proofs.SumsLaws.{film-of}
+use Rattle.job.proofs.SumsLaws.{film-of}
 
 -- a place of a part
 pub part-get : (l : List ℕ) (a n j : ℕ) → j < n → getD (take n (drop a l)) j 0 ≡ getD l (a + j) 0

@@ -1,18 +1,23 @@
 -- Laws of rows that take in one delay after the other.
 use mathlib.Core.Path.{_≡_, refl, sym, _∙_}
-use mathlib.Core.List.{List}
+use mathlib.Core.List.{List, [], _∷_}
 use Prim.Native.Nat.{ℕ, zero, suc, _-_, _≤_, _<_}
 use native.Mathlib.Omega.{arith}
 use lib.ListN.{length, getD, set, length-set}
 use lib.Seq.{getD-set-same, getD-set-other}
 use Rattle.base.specs.Table.{tab}
 use Rattle.base.proofs.TableLaws.{length-tab, getD-tab, tab-cong, tab-of-list}
-use Rattle.curves.specs.Curves.{Film}
+use Rattle.job.specs.Sums.{Film}
 use Rattle.curves.specs.Rows.{raised}
 
 -- a row with these numbers in its places is the table of them
 pub row-is : (f : ℕ → ℕ) (l : List ℕ) (n : ℕ) → length l ≡ n → ((k : ℕ) → k < n → getD l k 0 ≡ f k) → l ≡ tab f n
 row-is f l n h each = tab-of-list l n h ∙ tab-cong (λ k. getD l k 0) f n each
+
+-- a row without slots has no slot 0
+pub zero-none : (l : List ℕ) → length l ≤ 0 → l ≡ set l 0 0
+zero-none [] h = refl
+zero-none (x ∷ l) h = absurd (omega arith)
 
 -- a row whose slot 0 becomes 0
 pub zero-slot : (f g : ℕ → ℕ) (n : ℕ) → g 0 ≡ 0 → ((k : ℕ) → f (suc k) ≡ g (suc k)) → set (tab f n) 0 0 ≡ tab g n

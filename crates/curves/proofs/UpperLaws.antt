@@ -1,19 +1,17 @@
 -- Laws of the upper curve: it is the greatest closed family that is nowhere above `high`.
-use mathlib.Core.Bool.{Bool, true, false, cond, _&&_}
-use mathlib.Core.Path.{_≡_, refl, ap, sym, _∙_}
-use mathlib.Core.Logic.{_≢_, _⊎_, inl, inr, ⊎-elim}
-use Prim.Native.Nat.{ℕ, zero, suc, _+_, _-_, _≤_, _<_, max, min}
+use mathlib.Core.Bool.{true, false}
+use mathlib.Core.Path.{_≡_, refl, _∙_}
+use mathlib.Core.Logic.{_≢_, _⊎_, ⊎-elim}
+use Prim.Native.Nat.{ℕ, zero, suc, _+_, _-_, _≤_, _<_, min}
 use native.Mathlib.Omega.{arith}
 use native.Mathlib.Decide.{ℕ-discrete}
-use borrow.Author.Tests.{eq-eqb, ne-eqb, eqb-true, eqb-false}
-use lib.Dec.{eqb}
-use Rattle.base.specs.Range.{some, leastOver}
+use borrow.Author.Tests.{eq-eqb, ne-eqb}
+use Rattle.base.specs.Range.{leastOver}
 use Rattle.base.proofs.BoolLaws.{true-or-false, not-both}
 use Rattle.base.proofs.RangeLaws.{some-passes, leastOver-below, leastOver-above, leastOver-cong}
 use Rattle.job.specs.Tree.{Tree, TreeWithin, child, leaf, hasChild, below}
-use Rattle.job.proofs.TreeLaws.{leaf-in, leaf-or-child, child-of, child-is, child-in, below-in, below-cases}
-use Rattle.smoothing.specs.Tree.{Link, Closed, AtMost, GreatestClosedBelow}
-use Rattle.smoothing.specs.Plan.{Problem}
+use Rattle.job.proofs.TreeLaws.{leaf-in, leaf-or-child, child-of, child-is, child-in}
+use Rattle.smoothing.specs.Tree.{Link, Closed, GreatestClosedBelow}
 use Rattle.curves.specs.Curves.{D, roomIn, room, leastUp, upperCurve, high, problem}
 use Rattle.curves.proofs.LowerLaws.{parent-lower, parent-no-leaf}
 
@@ -102,11 +100,11 @@ module _ (t : Tree) (w : TreeWithin t) (T : ℕ → ℕ) where
   -- ---- the greatest closed family below `high`
 
   module _ (top : ℕ) where
-    high-leaf : (i k : ℕ) → leaf t i ≡ true → high t T top i (suc k) ≡ min (D t T i (suc k) + t .memory i) top
+    pub high-leaf : (i k : ℕ) → leaf t i ≡ true → high t T top i (suc k) ≡ min (D t T i (suc k) + t .memory i) top
     unfolding high
     high-leaf i k e = rw e
 
-    high-inner : (i k : ℕ) → leaf t i ≡ false → high t T top i (suc k) ≡ top
+    pub high-inner : (i k : ℕ) → leaf t i ≡ false → high t T top i (suc k) ≡ top
     unfolding high
     high-inner i k e = rw e
 

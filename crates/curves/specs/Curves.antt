@@ -11,12 +11,6 @@ use Rattle.job.specs.Limits.{mostFrames, greatestFrame}
 use Rattle.job.specs.Tree.{Tree, child, leaf, below}
 use Rattle.smoothing.specs.Plan.{Problem}
 
--- What 01 says of T: T(0) is 0, T never falls, and it never passes T(M).
-pub record Film (T : ℕ → ℕ) (top : ℕ) : Type 0 where
-  pub starts : T 0 ≡ 0
-  pub grows : (m k : ℕ) → m ≤ k → T m ≤ T k
-  pub under : (m : ℕ) → T m ≤ top
-
 -- l is a leaf below node i
 unfoldable pub leafBelow : Tree → ℕ → ℕ → Bool
 leafBelow t i l = leaf t l && below t l i
@@ -89,20 +83,3 @@ lazyIn D top r (suc after) k = max (D k) (lazyIn D top r after (suc k) - r)
 -- the lazy schedule of the row D at rate r, with H as the last slot
 unfoldable pub lazySchedule : (ℕ → ℕ) → ℕ → ℕ → ℕ → ℕ → ℕ
 lazySchedule D top H r k = lazyIn D top r (H - k) k
-
--- ---- a slice that holds T(0) to T(M)
-
--- T(m): the number at m, and the last one for m above M
-unfoldable pub sumsIn : List ℕ → ℕ → ℕ
-sumsIn l m = getD l (min m (length l - 1)) 0
-
--- T(M)
-unfoldable pub lastIn : List ℕ → ℕ
-lastIn l = getD l (length l - 1) 0
-
--- What is asked of such a slice: it isn't empty, it begins with 0, it never falls, and it ends within what the limits allow.
-pub record HoldsSums (l : List ℕ) : Type 0 where
-  pub some-sum : 0 < length l
-  pub starts : getD l 0 0 ≡ 0
-  pub grows : (m k : ℕ) → m ≤ k → k < length l → getD l m 0 ≤ getD l k 0
-  pub fits : lastIn l ≤ mostFrames * greatestFrame

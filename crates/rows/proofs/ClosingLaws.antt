@@ -7,7 +7,7 @@ use native.Mathlib.Nat.{add-zero, add-suc, suc-mul}
 use native.Mathlib.Numerals.{add-one}
 use native.Mathlib.Omega.{arith}
 use native.Mathlib.Decide.{ℕ-discrete}
-use borrow.Author.Tests.{eq-eqb, ne-eqb}
+use borrow.Author.Tests.{eq-eqb, ne-eqb, lt-ltb}
 use lib.Dec.{eqb}
 use lib.ListN.{length, take, drop, getD, set, length-append, take-append-drop}
 use lib.Seq.{drop-cons, set-at, length-take-le, getD-take, getD-drop}
@@ -16,10 +16,10 @@ use Rattle.base.proofs.TableLaws.{length-tab, getD-tab, tab-cong, tab-of-list, 
 use Rattle.base.proofs.PartLaws.{part-after}
 use Rattle.smoothing.specs.Tree.{Tree, Link, Ordered, put, unlessRoot, turnDown, passUp, passDown, closeUp, closeDown, close}
 use Rattle.smoothing.specs.Lists.{rowsIn}
-use Rattle.smoothing.proofs.PassLaws.{unlessRoot-root, unlessRoot-inner, passDown-at}
+use Rattle.smoothing.proofs.PassLaws.{put-other, unlessRoot-root, unlessRoot-inner, passDown-at}
 use Rattle.smoothing.proofs.LoopLaws.{passUp-turn-rows, rowsIn-replace}
 use Rattle.rows.specs.Row.{rowIn}
-use Rattle.rows.specs.Closing.{slotIn, withPart, Due}
+use Rattle.rows.specs.Closing.{slotIn, withPart, lentRow, Due}
 
 -- ---- a row filled in the midst of others
 
@@ -102,6 +102,24 @@ down-turn T w l (suc i) a p start h k q f is =
         ≡ unlessRoot (T .parent) (closeDown T) (suc i) (rowsIn w l (suc i) k) (rowsIn w l (T .parent (suc i)) k)
     taken (yes z) = rw (unlessRoot-root (T .parent) (closeDown T) (suc i) (rowsIn w l (suc i) k) (rowsIn w l (T .parent (suc i)) k) z, z) (omega arith)
     taken (no ne) = sym (unlessRoot-inner (T .parent) (closeDown T) (suc i) (rowsIn w l (suc i) k) (rowsIn w l (T .parent (suc i)) k) ne)
+
+-- ---- the lent row
+
+pub lent-none : (w : ℕ) (parent plan lent : List ℕ) → lent ≡ lentRow 1 w parent plan lent
+unfolding lentRow
+lent-none w parent plan lent = refl
+
+-- the turn of link v leaves its parent's row, which was copied, as it is
+pub lent-turn : (w : ℕ) (parent l p lent copy : List ℕ) (f : ℕ → ℕ) (v : ℕ) → 0 < v → getD parent v 0 < v → (v - 1) * w + w ≤ length l
+    → p ≡ withPart f ((v - 1) * w) w l → copy ≡ tab (rowsIn w l (getD parent v 0)) w → copy ≡ lentRow (v + 1) w parent p lent
+unfolding lentRow
+lent-turn w parent l p lent copy f v pos low room is e =
+    let d : v + 1 - 1 ≡ v = omega arith in
+    rw (lt-ltb 1 (v + 1) (omega arith), d)
+    (e ∙ tab-cong _ _ w (λ k h.
+    sym (ap (λ (q : List ℕ). rowsIn w q (getD parent v 0) k) is
+    ∙ ap (λ (g : ℕ → ℕ). g (getD parent v 0)) (rowsIn-replace w l _ v ((v - 1) * w) ((v - 1) * w + w) k pos refl refl room h)
+    ∙ put-other (slotIn w l k) v _ (getD parent v 0) (omega arith))))
 
 -- both passes, one after the other
 pub close-is : (T : Tree) (f up down : ℕ → ℕ) → up ≡ passUp (T .parent) (λ v x y. max x y) (T .n - 1) f

@@ -1,4 +1,3 @@
-pub mod RowLaws
 pub mod SearchLaws
 pub mod ClosingLaws
 pub mod OpeningLaws

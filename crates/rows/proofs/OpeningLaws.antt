@@ -1,6 +1,6 @@
 -- Laws for opening rows: a row lowered to another of the same list, and both passes.
-use Prim.Native.Nat.{ℕ, zero, suc, _+_, _-_, _*_, _≤_, _<_, min}
-use mathlib.Core.Path.{_≡_, refl, ap, sym, _∙_}
+use Prim.Native.Nat.{ℕ, _+_, _-_, _*_, _≤_, _<_, min}
+use mathlib.Core.Path.{_≡_, refl, ap, _∙_}
 use mathlib.Core.List.{List, _++_}
 use mathlib.Core.Logic.{⊎-elim}
 use native.Mathlib.Nat.{add-zero}
@@ -11,7 +11,6 @@ use Rattle.base.specs.Table.{tab}
 use Rattle.base.proofs.TableLaws.{length-tab, getD-tab, tab-cong}
 use Rattle.base.proofs.PartLaws.{part-before, part-inside, part-after}
 use Rattle.smoothing.specs.Tree.{Tree, passUp, passDown, openUp, «open»}
-use Rattle.smoothing.specs.Lists.{rowsIn}
 use Rattle.smoothing.proofs.LoopLaws.{passDown-turn-rows}
 use Rattle.job.specs.Limits.{greatestTotal}
 use Rattle.rows.specs.Row.{rowIn, InRange}

@@ -1,90 +1,55 @@
-// Rows of numbers, one for each slot: peaks, lazy rows, the search for a least peak, and rows closed over a tree of links.
+// Rows of numbers, one for each slot: lazy rows, the search for a least peak, and rows closed over a tree of links.
 // It knows no job: only slices, and the theory in `smoothing`. Definitions to believe: specs/Row, Search, Closing.
 ghost use mathlib.Core.Path.{_≡_};
-ghost use mathlib.Core.Bool.{cond};
-ghost use Prim.Native.Nat.{ℕ, _+_, _-_, _*_, _/_, _≤_, _<_, max, min};
-ghost use lib.ListN.{length, getD};
+ghost use Prim.Native.Nat.{ℕ, _+_, _-_, _*_, _≤_, _<_, max, min};
+ghost use lib.ListN.{length};
 ghost use Rattle.base.specs.Table.{tab};
-ghost use Rattle.smoothing.specs.Row.{peak, lazy, ceilDiv, leastPeak};
+ghost use Rattle.smoothing.specs.Row.{ceilDiv};
 ghost use Rattle.smoothing.specs.Newton as newton;
 ghost use Rattle.smoothing.specs.Lists.{familyIn, rowsIn};
 ghost use Rattle.smoothing.specs.Tree.{Tree, passUp, passDown, closeDown, close, openUp, «open»};
-ghost use Rattle.rows.specs.Closing.{treeFrom, slotIn, withPart, Closable, Due};
-ghost use Rattle.rows.specs.Opening.{Apart, Openable};
+ghost use Rattle.rows.specs.Closing.{treeFrom, AtEachSlot, withRaised, withRow, lentRow, Closable, Due};
+ghost use Rattle.rows.specs.Opening.{withLowered, Apart, Openable};
 ghost use Rattle.job.specs.Limits.{greatestTotal, greatestMemory};
-ghost use Rattle.rows.specs.Row.{rowIn, InRange};
-ghost use Rattle.rows.specs.Search.{searchIn, longestStride, Searchable};
+ghost use Rattle.rows.specs.Row.{lazyRow, raisedRow, leastPeakOf, InRange};
+ghost use Rattle.rows.specs.Search.{searchIn, passOver, longestStride, Searchable};
 use job::Job;
-
-fn greater(a: u64, b: u64) -> u64
-    ensures { λ r. ⌜ r ≡ max a b ⌝ }
-{
-    if a < b { b } else { a }
-}
-
-fn less(a: u64, b: u64) -> u64
-    ensures { λ r. ⌜ r ≡ a - b ⌝ }
-{
-    if a < b { 0 } else { a - b }
-}
-
-// The greatest rise of a row in one slot.
-pub fn peak_of(row: &[u64]) -> u64
-    ensures { λ r. ⌜ r ≡ peak (length (now (row .entry)) - 1) (rowIn (now (row .entry))) ⌝ }
-{
-    let mut top: u64 = 0;
-    let mut k = 1;
-    while k < row.len() {
-        top = greater(top, less(row[k], row[k - 1]));
-        k += 1;
-    }
-    top
-}
 
 // The lazy row of `lower` at the rate q, filled from its end.
 pub fn lazy_row(lower: &[u64], q: u64, out: &mut [u64])
     requires { ⌜ (0 < length (now lower)) × (length (now out) ≡ length (now lower)) ⌝ }
-    ensures { λ _. ⌜ now (out .exit) ≡ tab (lazy (length (now (lower .entry)) - 1) q (rowIn (now (lower .entry)))) (length (now (lower .entry))) ⌝ }
+    ensures { λ _. ⌜ now (out .exit) ≡ lazyRow q (now (lower .entry)) ⌝ }
 {
     let mut k = lower.len();
     let mut next = lower[k - 1];
     while k > 0 {
         k -= 1;
-        next = greater(lower[k], less(next, q));
+        next = base::max(lower[k], base::minus(next, q));
         out[k] = next;
+    }
+}
+
+// One number in every slot.
+pub fn fill_row(value: u64, out: &mut [u64])
+    ensures { λ _. ⌜ now (out .exit) ≡ tab (λ _. value) (length (now (out .entry))) ⌝ }
+{
+    let mut k = 0;
+    while k < out.len() {
+        out[k] = value;
+        k += 1;
     }
 }
 
 // Each number of `out` raised to that of `from` less the amount.
 pub fn raise_row_less(from: &[u64], amount: u64, out: &mut [u64])
     requires { ⌜ length (now from) ≡ length (now out) ⌝ }
-    ensures { λ _. ⌜ now (out .exit) ≡ tab (λ k. max (rowIn (now (out .entry)) k) (rowIn (now (from .entry)) k - amount)) (length (now (out .entry))) ⌝ }
+    ensures { λ _. ⌜ now (out .exit) ≡ raisedRow (now (from .entry)) amount (now (out .entry)) ⌝ }
 {
     let mut k = 0;
     while k < out.len() {
-        out[k] = greater(out[k], less(from[k], amount));
+        out[k] = base::max(out[k], base::minus(from[k], amount));
         k += 1;
     }
-}
-
-// Each number of `out` raised to that of `from`.
-pub fn raise_row(from: &[u64], out: &mut [u64])
-    requires { ⌜ length (now from) ≡ length (now out) ⌝ }
-    ensures { λ _. ⌜ now (out .exit) ≡ tab (λ k. max (rowIn (now (out .entry)) k) (rowIn (now (from .entry)) k)) (length (now (out .entry))) ⌝ }
-{
-    raise_row_less(from, 0, out);
-}
-
-fn lesser(a: u64, b: u64) -> u64
-    ensures { λ r. ⌜ r ≡ min a b ⌝ }
-{
-    if b < a { b } else { a }
-}
-
-fn choose(test: bool, a: u64, b: u64) -> u64
-    ensures { λ r. ⌜ r ≡ cond test a b ⌝ }
-{
-    if test { a } else { b }
 }
 
 // x / d rounded up.
@@ -110,12 +75,12 @@ impl Search {
         ensures { λ r. ⌜ searchIn r ≡ newton.look (λ _. lower) (λ _. upper) p 0 (searchIn self) ⌝ }
     {
         let nearer = upper < self.reach;
-        let reach = lesser(self.reach, upper) + p;
-        let gap = choose(nearer, 1, self.gap + 1);
-        let here = less(lower, reach);
+        let reach = base::min(self.reach, upper) + p;
+        let gap = base::select(nearer, 1, self.gap + 1);
+        let here = base::minus(lower, reach);
         let found = self.excess < here;
-        let excess = greater(self.excess, here);
-        let span = choose(found, gap, self.span);
+        let excess = base::max(self.excess, here);
+        let span = base::select(found, gap, self.span);
         Search {
             reach,
             gap,
@@ -129,7 +94,7 @@ impl Search {
 fn pass(lower: &[u64], upper: &[u64], p: u64, stride: usize) -> Search
     requires { ⌜ Searchable (now lower) (now upper) × (p ≤ greatestTotal) ⌝ }
     requires { ⌜ (0 < stride) × (stride ≤ longestStride) ⌝ }
-    ensures { λ r. ⌜ searchIn r ≡ newton.pass (newton.every stride (rowIn (now (lower .entry)))) (newton.every stride (rowIn (now (upper .entry)))) (p * stride) ((length (now (lower .entry)) - 1) / stride) ⌝ }
+    ensures { λ r. ⌜ searchIn r ≡ passOver stride p (now (lower .entry)) (now (upper .entry)) ⌝ }
 {
     let rise = p * (stride as u64);
     let mut s = Search {
@@ -151,10 +116,10 @@ fn pass(lower: &[u64], upper: &[u64], p: u64, stride: usize) -> Search
 // Newton's search over every `stride`-th slot: passes at higher and higher peaks, until one finds no excess. From a peak that is not
 // above the least it never passes the least, and over every slot it ends there.
 fn search_by(lower: &[u64], upper: &[u64], start: u64, stride: usize) -> u64
-    requires { ⌜ Searchable (now lower) (now upper) × (start ≤ leastPeak (length (now lower) - 1) (rowIn (now lower)) (rowIn (now upper))) ⌝ }
+    requires { ⌜ Searchable (now lower) (now upper) × (start ≤ leastPeakOf (now lower) (now upper)) ⌝ }
     requires { ⌜ (0 < stride) × (stride ≤ longestStride) ⌝ }
-    ensures { λ r. ⌜ (start ≤ r) × (r ≤ leastPeak (length (now (lower .entry)) - 1) (rowIn (now (lower .entry))) (rowIn (now (upper .entry)))) ⌝ }
-    ensures { λ r. ⌜ (stride ≡ 1 → r ≡ leastPeak (length (now (lower .entry)) - 1) (rowIn (now (lower .entry))) (rowIn (now (upper .entry)))) ⌝ }
+    ensures { λ r. ⌜ (start ≤ r) × (r ≤ leastPeakOf (now (lower .entry)) (now (upper .entry))) ⌝ }
+    ensures { λ r. ⌜ (stride ≡ 1 → r ≡ leastPeakOf (now (lower .entry)) (now (upper .entry))) ⌝ }
 {
     let mut p = start;
     let mut s = pass(lower, upper, p, stride);
@@ -171,7 +136,7 @@ const COARSE: usize = 32;
 // The least peak between two rows. A search over few slots comes first: it costs little, and leaves few passes over every slot.
 pub fn least_peak(lower: &[u64], upper: &[u64]) -> u64
     requires { ⌜ Searchable (now lower) (now upper) ⌝ }
-    ensures { λ r. ⌜ r ≡ leastPeak (length (now (lower .entry)) - 1) (rowIn (now (lower .entry))) (rowIn (now (upper .entry))) ⌝ }
+    ensures { λ r. ⌜ r ≡ leastPeakOf (now (lower .entry)) (now (upper .entry)) ⌝ }
 {
     let near = search_by(lower, upper, 0, COARSE);
     search_by(lower, upper, near, 1)
@@ -180,11 +145,11 @@ pub fn least_peak(lower: &[u64], upper: &[u64]) -> u64
 // Of two rows in one list, the one from place a on raised to the later one from place b on.
 fn raise_within(plan: &mut [u64], a: usize, b: usize, width: usize)
     requires { ⌜ (a + width ≤ b) × (b + width ≤ length (now plan)) ⌝ }
-    ensures { λ _. ⌜ now (plan .exit) ≡ withPart (λ k. max (getD (now (plan .entry)) (a + k) 0) (getD (now (plan .entry)) (b + k) 0)) a width (now (plan .entry)) ⌝ }
+    ensures { λ _. ⌜ now (plan .exit) ≡ withRaised a b width (now (plan .entry)) ⌝ }
 {
     let mut k = 0;
     while k < width {
-        plan[a + k] = greater(plan[a + k], plan[b + k]);
+        plan[a + k] = base::max(plan[a + k], plan[b + k]);
         k += 1;
     }
 }
@@ -192,7 +157,8 @@ fn raise_within(plan: &mut [u64], a: usize, b: usize, width: usize)
 // The pass up: each row, from the last on, into its parent's, unless that is the root.
 fn pass_up(plan: &mut [u64], parent: &[usize; Job::MOST_NODES], nodes: usize, width: usize)
     requires { ⌜ Closable (now plan) (now parent) nodes width ⌝ }
-    ensures { λ _. ⌜ ((k : ℕ) → k < width → slotIn width (now (plan .exit)) k ≡ passUp (familyIn (now (parent .entry))) (λ v x y. max x y) (nodes - 1) (slotIn width (now (plan .entry)) k)) ⌝ }
+    ensures { λ _. ⌜ AtEachSlot width (passUp (familyIn (now (parent .entry))) (λ v x y. max x y) (nodes - 1))
+        (now (plan .entry)) (now (plan .exit)) ⌝ }
 {
     let mut v = nodes;
     while v > 1 {
@@ -203,16 +169,6 @@ fn pass_up(plan: &mut [u64], parent: &[usize; Job::MOST_NODES], nodes: usize, wi
             let b = (v - 1) * width;
             raise_within(plan, a, b, width);
         }
-    }
-}
-
-fn clear(out: &mut [u64])
-    ensures { λ _. ⌜ now (out .exit) ≡ tab (λ _. 0) (length (now (out .entry))) ⌝ }
-{
-    let mut k = 0;
-    while k < out.len() {
-        out[k] = 0;
-        k += 1;
     }
 }
 
@@ -233,7 +189,7 @@ fn copy_row(plan: &[u64], u: usize, width: usize, out: &mut [u64])
     ensures { λ _. ⌜ now (out .exit) ≡ tab (rowsIn width (now (plan .entry)) u) width ⌝ }
 {
     if u == 0 {
-        clear(out);
+        fill_row(0, out);
         return;
     }
     let a = (u - 1) * width;
@@ -245,8 +201,9 @@ fn copy_row(plan: &[u64], u: usize, width: usize, out: &mut [u64])
 // where the parent is the root, and `memory` the parent's memory.
 pub fn finish_row(above: &[u64], memory: u64, row: &mut [u64])
     requires { ⌜ length (now above) ≡ length (now row) ⌝ }
-    ensures raised { λ _. ⌜ now (row .exit) ≡ tab (λ k. max (rowIn (now (row .entry)) k) (rowIn (now (above .entry)) k - memory)) (length (now (row .entry))) ⌝ }
-    ensures closed { λ _. ⌜ ((T : Tree) (F : ℕ → ℕ → ℕ) (v : ℕ) → Due T F v (now (row .entry)) (now (above .entry)) memory → now (row .exit) ≡ tab (λ k. close T (F k) v) (length (now (row .entry)))) ⌝ }
+    ensures raised { λ _. ⌜ now (row .exit) ≡ raisedRow (now (above .entry)) memory (now (row .entry)) ⌝ }
+    ensures closed { λ _. ⌜ ((T : Tree) (F : ℕ → ℕ → ℕ) (v : ℕ) → Due T F v (now (row .entry)) (now (above .entry)) memory
+        → now (row .exit) ≡ tab (λ k. close T (F k) v) (length (now (row .entry)))) ⌝ }
 {
     raise_row_less(above, memory, row);
 }
@@ -254,7 +211,8 @@ pub fn finish_row(above: &[u64], memory: u64, row: &mut [u64])
 // One turn of the pass down: the row of link v, with a copy of the finished row of its parent u. The other rows are kept.
 fn close_row(plan: &mut [u64], above: &mut [u64], u: usize, v: usize, amount: u64, width: usize)
     requires { ⌜ (u < v) × ((v * width ≤ length (now plan)) × (length (now above) ≡ width)) ⌝ }
-    ensures { λ _. ⌜ now (plan .exit) ≡ withPart (λ k. max (rowsIn width (now (plan .entry)) v k) (rowsIn width (now (plan .entry)) u k - amount)) ((v - 1) * width) width (now (plan .entry)) ⌝ }
+    ensures closed { λ _. ⌜ now (plan .exit) ≡ withRow v u amount width (now (plan .entry)) ⌝ }
+    ensures copied { λ _. ⌜ now (above .exit) ≡ tab (rowsIn width (now (plan .entry)) u) width ⌝ }
 {
     copy_row(plan, u, width, above);
     let a = (v - 1) * width;
@@ -262,8 +220,7 @@ fn close_row(plan: &mut [u64], above: &mut [u64], u: usize, v: usize, amount: u6
     finish_row(above, amount, &mut plan[a..e]);
 }
 
-// The pass down: each row, from the first on, raised to its parent's less the parent's memory. `above` is for the copies: any numbers
-// before and after.
+// The pass down: each row, from the first on, raised to its parent's less the parent's memory. `above` is for the copies.
 fn pass_down(
     plan: &mut [u64],
     above: &mut [u64],
@@ -273,7 +230,10 @@ fn pass_down(
     width: usize,
 )
     requires { ⌜ Closable (now plan) (now parent) nodes width × (length (now above) ≡ width) ⌝ }
-    ensures { λ _. ⌜ ((k : ℕ) → k < width → slotIn width (now (plan .exit)) k ≡ passDown (familyIn (now (parent .entry))) (closeDown (treeFrom nodes (now (parent .entry)) (now (memory .entry)))) (nodes - 1) (slotIn width (now (plan .entry)) k)) ⌝ }
+    ensures passed { λ _. ⌜ AtEachSlot width
+        (passDown (familyIn (now (parent .entry))) (closeDown (treeFrom nodes (now (parent .entry)) (now (memory .entry)))) (nodes - 1))
+        (now (plan .entry)) (now (plan .exit)) ⌝ }
+    ensures copied { λ _. ⌜ now (above .exit) ≡ lentRow nodes width (now (parent .entry)) (now (plan .exit)) (now (above .entry)) ⌝ }
 {
     let mut v = 1;
     while v < nodes {
@@ -284,8 +244,7 @@ fn pass_down(
     }
 }
 
-// A plan with a row of `width` numbers for each link, link 1's first, closed at every slot. The lent row is for the copies: any numbers
-// before and after.
+// A plan with a row of `width` numbers for each link, link 1's first, closed at every slot. The lent row is for copies of rows.
 pub fn close_rows(
     plan: &mut [u64],
     lent: &mut [u64],
@@ -295,7 +254,9 @@ pub fn close_rows(
     width: usize,
 )
     requires { ⌜ Closable (now plan) (now parent) nodes width × (length (now lent) ≡ width) ⌝ }
-    ensures { λ _. ⌜ ((k : ℕ) → k < width → slotIn width (now (plan .exit)) k ≡ close (treeFrom nodes (now (parent .entry)) (now (memory .entry))) (slotIn width (now (plan .entry)) k)) ⌝ }
+    ensures closed { λ _. ⌜ AtEachSlot width (close (treeFrom nodes (now (parent .entry)) (now (memory .entry))))
+        (now (plan .entry)) (now (plan .exit)) ⌝ }
+    ensures copied { λ _. ⌜ now (lent .exit) ≡ lentRow nodes width (now (parent .entry)) (now (plan .exit)) (now (lent .entry)) ⌝ }
 {
     pass_up(plan, parent, nodes, width);
     pass_down(plan, lent, parent, memory, nodes, width);
@@ -304,12 +265,12 @@ pub fn close_rows(
 // Of two rows in one list that have no place in common, the one from place `to` on lowered to the one from place `from` on and `plus`.
 fn lower_within(plan: &mut [u64], to: usize, from: usize, plus: u64, width: usize)
     requires { ⌜ Apart to from width (now plan) × ((plus ≤ greatestMemory) × InRange (now plan)) ⌝ }
-    ensures filled { λ _. ⌜ now (plan .exit) ≡ withPart (λ k. min (getD (now (plan .entry)) (to + k) 0) (getD (now (plan .entry)) (from + k) 0 + plus)) to width (now (plan .entry)) ⌝ }
+    ensures filled { λ _. ⌜ now (plan .exit) ≡ withLowered to from plus width (now (plan .entry)) ⌝ }
     ensures ranged { λ _. ⌜ InRange (now (plan .exit)) ⌝ }
 {
     let mut k = 0;
     while k < width {
-        plan[to + k] = lesser(plan[to + k], plan[from + k] + plus);
+        plan[to + k] = base::min(plan[to + k], plan[from + k] + plus);
         k += 1;
     }
 }
@@ -323,7 +284,9 @@ fn open_up(
     width: usize,
 )
     requires { ⌜ Openable (now plan) (now parent) (now memory) nodes width ⌝ }
-    ensures passed { λ _. ⌜ ((k : ℕ) → k < width → slotIn width (now (plan .exit)) k ≡ passUp (familyIn (now (parent .entry))) (openUp (treeFrom nodes (now (parent .entry)) (now (memory .entry)))) (nodes - 1) (slotIn width (now (plan .entry)) k)) ⌝ }
+    ensures passed { λ _. ⌜ AtEachSlot width
+        (passUp (familyIn (now (parent .entry))) (openUp (treeFrom nodes (now (parent .entry)) (now (memory .entry)))) (nodes - 1))
+        (now (plan .entry)) (now (plan .exit)) ⌝ }
     ensures ranged { λ _. ⌜ InRange (now (plan .exit)) ⌝ }
 {
     let mut v = nodes;
@@ -342,7 +305,8 @@ fn open_up(
 // The pass down of opening: each row, from the first on, lowered to its parent's, unless that is the root.
 fn open_down(plan: &mut [u64], parent: &[usize; Job::MOST_NODES], nodes: usize, width: usize)
     requires { ⌜ Closable (now plan) (now parent) nodes width × InRange (now plan) ⌝ }
-    ensures { λ _. ⌜ ((k : ℕ) → k < width → slotIn width (now (plan .exit)) k ≡ passDown (familyIn (now (parent .entry))) (λ v x y. min x y) (nodes - 1) (slotIn width (now (plan .entry)) k)) ⌝ }
+    ensures { λ _. ⌜ AtEachSlot width (passDown (familyIn (now (parent .entry))) (λ v x y. min x y) (nodes - 1))
+        (now (plan .entry)) (now (plan .exit)) ⌝ }
 {
     let mut v = 1;
     while v < nodes {
@@ -365,7 +329,8 @@ pub fn open_rows(
     width: usize,
 )
     requires { ⌜ Openable (now plan) (now parent) (now memory) nodes width ⌝ }
-    ensures { λ _. ⌜ ((k : ℕ) → k < width → slotIn width (now (plan .exit)) k ≡ «open» (treeFrom nodes (now (parent .entry)) (now (memory .entry))) (slotIn width (now (plan .entry)) k)) ⌝ }
+    ensures { λ _. ⌜ AtEachSlot width («open» (treeFrom nodes (now (parent .entry)) (now (memory .entry))))
+        (now (plan .entry)) (now (plan .exit)) ⌝ }
 {
     open_up(plan, parent, memory, nodes, width);
     open_down(plan, parent, nodes, width);

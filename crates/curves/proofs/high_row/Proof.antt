@@ -1,13 +1,8 @@
 use Rattle.curves.proofs.AllRowsLaws.{high-slots}
-use mathlib.Core.Path.{_≡_, _∙_}
-use native.Mathlib.Omega.{arith}
+use mathlib.Core.Path.{_∙_}
 use borrow.Author.Needs.{needs}
 use Rattle.curves.proofs.high_row.Statement.{statement}
 use Rattle.curves.proofs.high_row.Tie as tie
-use Rattle.curves.proofs.high_row.Reads as reads
-use Rattle.curves.proofs.high_row.Lts as lts
-use Rattle.curves.proofs.roof_row.Reads as roof-row-reads
-use Rattle.curves.proofs.start_at_zero.Reads as start-at-zero-reads
 
 roof-row-requires : tie.Need-roof-row-requires
 roof-row-requires c κs = search needs

@@ -1,4 +1,4 @@
-use mathlib.Core.Path.{_≡_, refl, ap, sym, _∙_}
+use mathlib.Core.Path.{_≡_, refl, _∙_}
 use mathlib.Core.List.{List, _++_}
 use Prim.Native.Nat.{ℕ, suc, _+_, _-_, _*_, _≤_}
 use native.Mathlib.Numerals.{add-one}
@@ -8,15 +8,13 @@ use borrow.Rule.Slice.PartMut.{same-len-mid}
 use Rattle.base.specs.Table.{tab, rowsOf}
 use Rattle.base.proofs.TableLaws.{length-tab, rows-more, rows-done, row-end, length-part}
 use Rattle.job.specs.Read.{treeIn}
-use Rattle.curves.specs.Curves.{sumsIn, lastIn, high}
+use Rattle.curves.specs.Curves.{high}
+use Rattle.job.specs.Sums.{sumsIn, lastIn}
 use Rattle.curves.specs.Rows.{highRows}
 use borrow.Author.Needs.{needs}
 use native.Mathlib.Omega.{arith}
 use Rattle.curves.proofs.high_rows.Statement.{statement}
 use Rattle.curves.proofs.high_rows.Tie as tie
-use Rattle.curves.proofs.high_rows.Reads as reads
-use Rattle.curves.proofs.high_rows.Lts as lts
-use Rattle.curves.proofs.high_row.Reads as high-row-reads
 
 abbrev Inv-loop : tie.InvT-loop
 Inv-loop job sums table₀ width links i₀ start₀ table i start =
@@ -28,7 +26,7 @@ abbrev μ-loop : tie.MeasureT-loop
 μ-loop job sums table₀ width links i₀ start₀ table i start = links - i
 
 sub-links : tie.Need-sub-links Inv-loop μ-loop
-sub-links c = omega (arith, c .before .before .before .pre .0 .nodes-from)
+sub-links c = omega (arith, c .before .before .before .pre .0 .tree .nodes-from)
 
 loop-holds : tie.Need-loop-holds Inv-loop μ-loop
 unfolding rowsOf
@@ -39,7 +37,7 @@ row-in : (c : tie.In-loop Inv-loop μ-loop) → let a = c .before .before .befor
 row-in c =
     let l = c .before .loop in
     let st = c .before .before .before .before .before in
-    omega (arith, row-end (l .i) (st .args .job .nodes - 1) (st .args .width) (c .loop-test .taken), l .inv .1 .0, st .pre .1 .1)
+    omega (arith, row-end (l .i) (st .args .job .nodes - 1) (st .args .width) (c .loop-test .taken), l .inv .1 .0, st .pre .1)
 
 add-end : tie.Need-add-end Inv-loop μ-loop
 add-end c = omega (arith, row-in c)
@@ -60,7 +58,7 @@ part-high-row-end : tie.Need-part-high-row-end Inv-loop μ-loop
 part-high-row-end c = omega (arith, row-in c, c .before .loop .inv .1 .1 .0)
 
 high-row-requires : tie.Need-high-row-requires Inv-loop μ-loop
-high-row-requires c κs = let st = c .before .before .before .before .before .before in (st .pre .0, ((omega arith, omega arith), st .pre .1 .0))
+high-row-requires c κs = let st = c .before .before .before .before .before .before in (st .pre .0, (omega arith, omega arith))
 
 add-i : tie.Need-add-i Inv-loop μ-loop
 add-i c = search needs
@@ -97,7 +95,8 @@ returns c =
     let l = c .before .loop in
     let st = c .before .before .before .before .before in
     let a = st .args in
-    rows-done (λ i. tab (high (treeIn (a .job)) (sumsIn (a .sums .now)) (lastIn (a .sums .now)) (suc i)) (a .width)) (a .width) (l .i) (a .job .nodes - 1) (l .start) _ (l .table) (l .inv .1 .1 .1) (omega arith) (st .pre .1 .1) (l .inv .1 .0)
+    rows-done (λ i. tab (high (treeIn (a .job)) (sumsIn (a .sums .now)) (lastIn (a .sums .now)) (suc i)) (a .width)) (a .width) (l .i)
+    (a .job .nodes - 1) (l .start) _ (l .table) (l .inv .1 .1 .1) (omega arith) (st .pre .1) (l .inv .1 .0)
 
 pub high-rows-spec : {M : Type 1} → statement M
 high-rows-spec =

@@ -1,26 +1,19 @@
-use mathlib.Core.Path.{_≡_, refl, ap, sym, _∙_}
-use mathlib.Core.Logic.{_≢_}
-use Prim.Native.Nat.{ℕ, _-_, _≤_, _<_}
+use mathlib.Core.Path.{_≡_, _∙_}
+use Prim.Native.Nat.{_-_}
 use lib.ListN.{length, getD}
 use Rattle.base.proofs.TableLaws.{length-tab}
-use Rattle.curves.proofs.SumsLaws.{film-of}
+use Rattle.job.proofs.SumsLaws.{film-of}
 use Rattle.curves.proofs.AllRowsLaws.{near-own}
 use native.Mathlib.Omega.{arith}
 use borrow.Author.Needs.{needs}
 use Rattle.curves.proofs.keep_row.Statement.{statement}
 use Rattle.curves.proofs.keep_row.Tie as tie
-use Rattle.curves.proofs.keep_row.Reads as reads
-use Rattle.curves.proofs.keep_row.Lts as lts
-use Rattle.curves.proofs.least_delay.Reads as least-delay-reads
-use Rattle.curves.proofs.lessen.Reads as lessen-reads
-use Rattle.curves.proofs.lower_row.Reads as lower-row-reads
-use Rattle.curves.proofs.raise.Reads as raise-reads
 
 returns : tie.Need-returns
 returns c =
     let st = c .before .before .before in
     let same : st .args .c ≡ st .args .u = omega arith in
-    rw same at (st .pre .1 .1 .1 .1 (omega arith))
+    rw same at (st .pre .1 .1 .1 (omega arith))
 
 lower-row-requires : tie.Need-lower-row-requires
 lower-row-requires c κs = search needs
@@ -69,11 +62,12 @@ returns-4 c =
     let st = c .before .before .before .before .before .before .before .before .before .before .before .before .before .before .before .before in
     let a = st .args in
     let parent : getD (a .t1 .parent) (a .u) 0 ≡ a .c = omega arith in
-    let row = rw (← parent) at (st .pre .1 .1 .1 .1 (omega arith)) in
+    let row = rw (← parent) at (st .pre .1 .1 .1 (omega arith)) in
     let less = rw (← parent) at (c .before .before .before .before .before .before .before .lessen .ensures) in
     c .before .before .raise .ensures
     ∙ rw (c .before .before .before .least-delay .ensures, less, length-tab)
-    (near-own _ (st .pre .0) _ _ (film-of (a .sums .now) (st .pre .1 .1 .0)) (a .u) (st .pre .1 .0) (omega arith) (length (a .kept .now)) (a .kept .now) row)
+    (near-own _ (st .pre .0 .tree) _ _ (film-of (a .sums .now) (st .pre .0 .film)) (a .u) (st .pre .1 .0) (omega arith)
+    (length (a .kept .now)) (a .kept .now) row)
 
 pub keep-row-spec : {M : Type 1} → statement M
 keep-row-spec =

@@ -5,10 +5,6 @@ use native.Mathlib.Omega.{arith}
 use borrow.Author.Needs.{needs}
 use Rattle.curves.proofs.least_delay.Statement.{statement}
 use Rattle.curves.proofs.least_delay.Tie as tie
-use Rattle.curves.proofs.least_delay.Reads as reads
-use Rattle.curves.proofs.least_delay.Lts as lts
-use Rattle.curves.proofs.shortest.Reads as shortest-reads
-use Rattle.job.proofs.Job.leaves_below.Reads as leaves-below-reads
 
 leaves-below-requires : tie.Need-leaves-below-requires
 leaves-below-requires c κs = search needs

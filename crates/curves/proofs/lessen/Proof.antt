@@ -1,15 +1,12 @@
-use Rattle.base.specs.Table.{tab, Filled}
+use Rattle.base.specs.Table.{Filled}
 use Rattle.base.proofs.TableLaws.{filled-none, filled-more, filled-ahead, filled-done}
 use lib.ListN.{length, getD}
 use mathlib.Core.Path.{_≡_, _∙_}
-use Prim.Native.Nat.{ℕ, _-_}
+use Prim.Native.Nat.{_-_}
 use borrow.Author.Needs.{needs}
 use native.Mathlib.Omega.{arith}
 use Rattle.curves.proofs.lessen.Statement.{statement}
 use Rattle.curves.proofs.lessen.Tie as tie
-use Rattle.curves.proofs.lessen.Reads as reads
-use Rattle.curves.proofs.lessen.Lts as lts
-use Rattle.curves.proofs.less_by.Reads as less-by-reads
 
 abbrev Inv-loop : tie.InvT-loop
 Inv-loop out₀ less k₀ out k = Filled (λ k. getD out₀ k 0 - less) k out₀ out
@@ -20,14 +17,14 @@ abbrev μ-loop : tie.MeasureT-loop
 loop-holds : tie.Need-loop-holds Inv-loop μ-loop
 loop-holds c = filled-none _ _
 
-mul-less-by : tie.Need-mul-less-by Inv-loop μ-loop
-mul-less-by c = search needs
+mul-minus : tie.Need-mul-minus Inv-loop μ-loop
+mul-minus c = search needs
 
-slice-read-less-by : tie.Need-slice-read-less-by Inv-loop μ-loop
-slice-read-less-by c = search needs
+slice-read-minus : tie.Need-slice-read-minus Inv-loop μ-loop
+slice-read-minus c = search needs
 
-less-by-requires : tie.Need-less-by-requires Inv-loop μ-loop
-less-by-requires c κs = search needs
+minus-requires : tie.Need-minus-requires Inv-loop μ-loop
+minus-requires c κs = search needs
 
 mul-out : tie.Need-mul-out Inv-loop μ-loop
 mul-out c = search needs
@@ -45,8 +42,8 @@ loop-again : tie.Need-loop-again Inv-loop μ-loop
 loop-again c =
     let l = c .before .before .before .loop in
     let a = c .before .before .before .before .before .args in
-    let e : c .less-by .result ≡ getD (a .out .now) (l .k) 0 - a .less =
-    c .less-by .ensures ∙ rw (filled-ahead _ (l .k) _ (l .out) (l .inv) (omega arith)) in
+    let e : c .minus .result ≡ getD (a .out .now) (l .k) 0 - a .less =
+    c .minus .ensures ∙ rw (filled-ahead _ (l .k) _ (l .out) (l .inv) (omega arith)) in
     rw e (filled-more (λ k. getD (a .out .now) k 0 - a .less) (l .k) _ (l .out) (l .inv) (omega arith))
 
 same-length : tie.Need-same-length Inv-loop μ-loop
@@ -62,9 +59,9 @@ lessen-spec =
     Inv-loop
     μ-loop
     loop-holds
-    mul-less-by
-    slice-read-less-by
-    less-by-requires
+    mul-minus
+    slice-read-minus
+    minus-requires
     mul-out
     slice-write-out
     add-k

@@ -1,16 +1,13 @@
-use Rattle.base.specs.Table.{tab, Filled}
+use Rattle.base.specs.Table.{Filled}
 use Rattle.base.proofs.TableLaws.{filled-none, filled-more, filled-ahead, filled-done}
 use lib.ListN.{length, getD}
 use mathlib.Core.List.{List}
-use mathlib.Core.Path.{_≡_, refl, ap, sym, _∙_}
-use Prim.Native.Nat.{ℕ, _+_, _-_, _≤_, _<_, min}
+use mathlib.Core.Path.{_≡_, _∙_}
+use Prim.Native.Nat.{ℕ, _-_, min}
 use borrow.Author.Needs.{needs}
 use native.Mathlib.Omega.{arith}
 use Rattle.curves.proofs.lower_all.Statement.{statement}
 use Rattle.curves.proofs.lower_all.Tie as tie
-use Rattle.curves.proofs.lower_all.Reads as reads
-use Rattle.curves.proofs.lower_all.Lts as lts
-use Rattle.curves.proofs.smaller.Reads as smaller-reads
 
 abbrev row : List ℕ → ℕ → ℕ → ℕ
 row out value k = min (getD out k 0) value
@@ -24,14 +21,14 @@ abbrev μ-loop : tie.MeasureT-loop
 loop-holds : tie.Need-loop-holds Inv-loop μ-loop
 loop-holds c = filled-none _ _
 
-mul-smaller : tie.Need-mul-smaller Inv-loop μ-loop
-mul-smaller c = search needs
+mul-min : tie.Need-mul-min Inv-loop μ-loop
+mul-min c = search needs
 
-slice-read-smaller : tie.Need-slice-read-smaller Inv-loop μ-loop
-slice-read-smaller c = search needs
+slice-read-min : tie.Need-slice-read-min Inv-loop μ-loop
+slice-read-min c = search needs
 
-smaller-requires : tie.Need-smaller-requires Inv-loop μ-loop
-smaller-requires c κs = search needs
+min-requires : tie.Need-min-requires Inv-loop μ-loop
+min-requires c κs = search needs
 
 mul-out : tie.Need-mul-out Inv-loop μ-loop
 mul-out c = search needs
@@ -49,7 +46,8 @@ loop-again : tie.Need-loop-again Inv-loop μ-loop
 loop-again c =
     let l = c .before .before .before .loop in
     let a = c .before .before .before .before .before .args in
-    let e : c .smaller .result ≡ row (a .out .now) (a .value) (l .k) = c .smaller .ensures ∙ rw (filled-ahead _ (l .k) _ (l .out) (l .inv) (omega arith)) in
+    let e : c .min .result ≡ row (a .out .now) (a .value) (l .k) = c .min .ensures
+    ∙ rw (filled-ahead _ (l .k) _ (l .out) (l .inv) (omega arith)) in
     rw e (filled-more (row (a .out .now) (a .value)) (l .k) _ (l .out) (l .inv) (omega arith))
 
 same-length : tie.Need-same-length Inv-loop μ-loop
@@ -65,9 +63,9 @@ lower-all-spec =
     Inv-loop
     μ-loop
     loop-holds
-    mul-smaller
-    slice-read-smaller
-    smaller-requires
+    mul-min
+    slice-read-min
+    min-requires
     mul-out
     slice-write-out
     add-k

@@ -1,16 +1,13 @@
-use Rattle.base.specs.Table.{tab, Filled}
+use Rattle.base.specs.Table.{Filled}
 use Rattle.base.proofs.TableLaws.{filled-none, filled-more, filled-ahead, filled-done}
 use lib.ListN.{length, getD}
 use mathlib.Core.List.{List}
-use mathlib.Core.Path.{_≡_, refl, ap, sym, _∙_}
-use Prim.Native.Nat.{ℕ, _+_, _-_, _≤_, _<_, min}
+use mathlib.Core.Path.{_≡_, _∙_}
+use Prim.Native.Nat.{ℕ, _+_, _-_, min}
 use borrow.Author.Needs.{needs}
 use native.Mathlib.Omega.{arith}
 use Rattle.curves.proofs.lower_by.Statement.{statement}
 use Rattle.curves.proofs.lower_by.Tie as tie
-use Rattle.curves.proofs.lower_by.Reads as reads
-use Rattle.curves.proofs.lower_by.Lts as lts
-use Rattle.curves.proofs.smaller.Reads as smaller-reads
 
 abbrev row : List ℕ → List ℕ → ℕ → ℕ → ℕ
 row out from plus k = min (getD out k 0) (getD from k 0 + plus)
@@ -24,23 +21,26 @@ abbrev μ-loop : tie.MeasureT-loop
 loop-holds : tie.Need-loop-holds Inv-loop μ-loop
 loop-holds c = filled-none _ _
 
-mul-smaller : tie.Need-mul-smaller Inv-loop μ-loop
-mul-smaller c = search needs
+mul-min : tie.Need-mul-min Inv-loop μ-loop
+mul-min c = search needs
 
-slice-read-smaller : tie.Need-slice-read-smaller Inv-loop μ-loop
-slice-read-smaller c = search needs
+slice-read-min : tie.Need-slice-read-min Inv-loop μ-loop
+slice-read-min c = search needs
 
-mul-smaller-2 : tie.Need-mul-smaller-2 Inv-loop μ-loop
-mul-smaller-2 c = search needs
+mul-min-2 : tie.Need-mul-min-2 Inv-loop μ-loop
+mul-min-2 c = search needs
 
-shared-slice-read-smaller : tie.Need-shared-slice-read-smaller Inv-loop μ-loop
-shared-slice-read-smaller c = search needs
+shared-slice-read-min : tie.Need-shared-slice-read-min Inv-loop μ-loop
+shared-slice-read-min c = search needs
 
-add-smaller : tie.Need-add-smaller Inv-loop μ-loop
-add-smaller c = let st = c .before .before .before .before .before .before in omega (arith, st .pre .1 .0, st .pre .1 .1 (c .before .before .before .loop .k) (omega (arith, c .before .before .before .loop .inv .1 .0)))
+add-min : tie.Need-add-min Inv-loop μ-loop
+add-min c =
+    let st = c .before .before .before .before .before .before in
+    let l = c .before .before .before .loop in
+    omega (arith, st .pre .1 .0, st .pre .1 .1 (l .k) (omega (arith, l .inv .1 .0)))
 
-smaller-requires : tie.Need-smaller-requires Inv-loop μ-loop
-smaller-requires c κs = search needs
+min-requires : tie.Need-min-requires Inv-loop μ-loop
+min-requires c κs = search needs
 
 mul-out : tie.Need-mul-out Inv-loop μ-loop
 mul-out c = search needs
@@ -58,7 +58,8 @@ loop-again : tie.Need-loop-again Inv-loop μ-loop
 loop-again c =
     let l = c .before .before .before .before .loop in
     let a = c .before .before .before .before .before .before .before .args in
-    let e : c .smaller .result ≡ row (a .out .now) (a .from .now) (a .plus) (l .k) = c .smaller .ensures ∙ rw (filled-ahead _ (l .k) _ (l .out) (l .inv) (omega arith)) in
+    let e : c .min .result ≡ row (a .out .now) (a .from .now) (a .plus) (l .k) = c .min .ensures
+    ∙ rw (filled-ahead _ (l .k) _ (l .out) (l .inv) (omega arith)) in
     rw e (filled-more (row (a .out .now) (a .from .now) (a .plus)) (l .k) _ (l .out) (l .inv) (omega arith))
 
 same-length : tie.Need-same-length Inv-loop μ-loop
@@ -74,12 +75,12 @@ lower-by-spec =
     Inv-loop
     μ-loop
     loop-holds
-    mul-smaller
-    slice-read-smaller
-    mul-smaller-2
-    shared-slice-read-smaller
-    add-smaller
-    smaller-requires
+    mul-min
+    slice-read-min
+    mul-min-2
+    shared-slice-read-min
+    add-min
+    min-requires
     mul-out
     slice-write-out
     add-k

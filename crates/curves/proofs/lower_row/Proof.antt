@@ -1,22 +1,17 @@
 use Rattle.curves.proofs.LowerRowLaws.{LowerSoFar, lower-start, lower-up, lower-fits, lower-seen, lower-next, lower-done}
-use Rattle.curves.proofs.SumsLaws.{film-of}
-use Rattle.curves.specs.Curves.{sumsIn, lastIn, lowerCurve}
+use Rattle.job.proofs.SumsLaws.{film-of}
+use Rattle.job.specs.Sums.{sumsIn}
 use Rattle.job.specs.Read.{treeIn}
 use Rattle.base.specs.Table.{tab}
 use Rattle.base.proofs.TableLaws.{length-tab}
 use lib.ListN.{length, getD}
-use mathlib.Core.Path.{_≡_, refl, ap, sym, _∙_}
-use Prim.Native.Nat.{ℕ, _+_, _-_, _*_, _≤_, _<_}
+use mathlib.Core.Path.{_≡_, refl, ap, _∙_}
+use Prim.Native.Nat.{_+_, _-_, _*_, _≤_, _<_}
 use Rattle.job.specs.Limits.{mostNodes, greatestMemory}
 use borrow.Author.Needs.{needs}
 use native.Mathlib.Omega.{arith}
 use Rattle.curves.proofs.lower_row.Statement.{statement}
 use Rattle.curves.proofs.lower_row.Tie as tie
-use Rattle.curves.proofs.lower_row.Reads as reads
-use Rattle.curves.proofs.lower_row.Lts as lts
-use Rattle.curves.proofs.least_delay.Reads as least-delay-reads
-use Rattle.curves.proofs.shift.Reads as shift-reads
-use Rattle.curves.proofs.take_in.Reads as take-in-reads
 
 abbrev Inv-loop : tie.InvT-loop
 Inv-loop job sums i out₀ parent memory a₀ less₀ taken₀ out a less taken = LowerSoFar (treeIn job) (sumsIn sums) i (length out₀) a less taken out
@@ -28,7 +23,7 @@ abbrev μ-loop : tie.MeasureT-loop
 near : (c : tie.At-loop Inv-loop μ-loop) → c .loop .a < mostNodes
 near c =
     let st = c .before .before .before .before .before .before .before .before .before .before in
-    omega (arith, c .loop .inv .here, st .pre .1 .0, st .pre .0 .nodes-to)
+    omega (arith, c .loop .inv .here, st .pre .1, st .pre .0 .tree .nodes-to)
 
 -- the parent that a turn goes up to: it is lower, and the memory on the way stays small
 up : (c : tie.In-loop Inv-loop μ-loop) → let l = c .before .loop in let a = c .before .before .before .before .before .before .before .before .before .before .before .args in let p = getD (a .job .parent) (l .a) 0 in
@@ -36,8 +31,11 @@ up : (c : tie.In-loop Inv-loop μ-loop) → let l = c .before .loop in let a = c
 up c =
     let l = c .before .loop in
     let st = c .before .before .before .before .before .before .before .before .before .before .before in
-    let film = film-of (st .args .sums .now) (st .pre .1 .1) in
-    (lower-up _ (st .pre .0) _ _ film _ _ _ _ _ _ (st .pre .1 .0) (l .inv) (omega arith), lower-fits _ (st .pre .0) _ _ film _ _ _ _ _ _ (st .pre .1 .0) (l .inv) (omega arith))
+    let film = film-of (st .args .sums .now) (st .pre .0 .film) in (
+      lower-up _ (st .pre .0 .tree) _ _ film _ _ _ _ _ _ (st .pre .1) (l .inv) (omega arith),
+      lower-fits _ (st .pre .0 .tree) _ _ film _ _
+          _ _ _ _ (st .pre .1) (l .inv) (omega arith),
+    )
 
 -- the row that the loop begins with is as long as the one lent
 kept : (c : tie.At-loop Inv-loop μ-loop) → length (c .before .before .before .shift .last .0) ≡ length (c .before .before .before .before .before .before .before .before .before .before .args .out .now)
@@ -52,7 +50,8 @@ shift-requires c κs = search needs
 loop-holds : tie.Need-loop-holds Inv-loop μ-loop
 loop-holds c =
     let st = c .before .before .before .before .before .before .before .before .before in
-    lower-start _ (st .pre .0) _ _ (film-of (st .args .sums .now) (st .pre .1 .1)) _ _ _ _ (st .pre .1 .0) (c .before .before .before .before .least-delay .ensures) (c .before .before .shift .ensures)
+    lower-start _ (st .pre .0 .tree) _ _ (film-of (st .args .sums .now) (st .pre .0 .film)) _ _ _ _ (st .pre .1)
+    (c .before .before .before .before .least-delay .ensures) (c .before .before .shift .ensures)
 
 mul-loop : tie.Need-mul-loop Inv-loop μ-loop
 mul-loop c = omega (arith, near c)
@@ -73,18 +72,30 @@ array-read-less : tie.Need-array-read-less Inv-loop μ-loop
 array-read-less c = omega (arith, near (c .before), up c)
 
 add-less : tie.Need-add-less Inv-loop μ-loop
-add-less c = omega (arith, near (c .before), up c, c .before .before .before .before .before .before .before .before .before .before .before .pre .1 .0, c .before .before .before .before .before .before .before .before .before .before .before .pre .0 .nodes-to)
+add-less c =
+    omega (
+      arith,
+      near (c .before),
+      up c,
+      c .before .before .before .before .before .before .before .before .before .before
+          .before .pre .1,
+      c .before .before .before .before .before .before .before .before .before .before
+          .before .pre .0 .tree .nodes-to,
+    )
 
 least-delay-requires-2 : tie.Need-least-delay-requires-2 Inv-loop μ-loop
 least-delay-requires-2 c κs =
     let st = c .before .before .before .before .before .before .before .before .before .before .before .before in
-    (st .pre .0, omega (arith, up (c .before), c .before .before .loop .inv .here, st .pre .1 .0))
+    (st .pre .0 .tree, omega (arith, up (c .before), c .before .before .loop .inv .here, st .pre .1))
 
 take-in-requires : tie.Need-take-in-requires Inv-loop μ-loop
 take-in-requires c κs =
     let st = c .before .before .before .before .before .before .before .before .before .before .before .before .before in
-    let l = c .before .before .before .loop in
-    (st .pre .1 .1, lower-seen _ (st .pre .0) _ _ (film-of (st .args .sums .now) (st .pre .1 .1)) _ _ _ _ _ _ (st .pre .1 .0) (l .inv) _)
+    let l = c .before .before .before .loop in (
+      st .pre .0 .film,
+      lower-seen _ (st .pre .0 .tree) _ _ (film-of (st .args .sums .now) (st .pre .0 .film)) _ _ _ _ _ _ (st .pre .1)
+          (l .inv) _,
+    )
 
 loop-less : tie.Need-loop-less Inv-loop μ-loop
 loop-less c = up (c .before .before .before .before .before) .0 .1
@@ -95,7 +106,8 @@ loop-again c =
     let l = c .before .before .before .before .before .before .loop in
     let n = c .before .before .take-in in
     let delay = c .before .before .before .least-delay2 .ensures in
-    lower-next _ (st .pre .0) _ _ (film-of (st .args .sums .now) (st .pre .1 .1)) _ _ _ _ _ _ (st .pre .1 .0) (l .inv) (omega arith) _ _ _ refl
+    lower-next _ (st .pre .0 .tree) _ _ (film-of (st .args .sums .now) (st .pre .0 .film)) _ _ _ _ _ _ (st .pre .1) (l .inv)
+    (omega arith) _ _ _ refl
     (rw (← delay) (n .ensures .0)) (rw (← delay) (n .ensures .1))
 
 same-length : tie.Need-same-length Inv-loop μ-loop
@@ -105,7 +117,8 @@ returns : tie.Need-returns Inv-loop μ-loop
 returns c =
     let st = c .before .before .before .before .before .before .before .before .before .before .before in
     let l = c .before .loop in
-    lower-done _ (st .pre .0) _ _ (film-of (st .args .sums .now) (st .pre .1 .1)) _ _ _ _ _ _ (st .pre .1 .0) (l .inv) (omega arith) ∙ ap (tab _) (kept (c .before))
+    lower-done _ (st .pre .0 .tree) _ _ (film-of (st .args .sums .now) (st .pre .0 .film)) _ _ _ _ _ _ (st .pre .1) (l .inv)
+    (omega arith) ∙ ap (tab _) (kept (c .before))
 
 pub lower-row-spec : {M : Type 1} → statement M
 lower-row-spec =

@@ -1,19 +1,16 @@
-use Rattle.curves.specs.Curves.{lastIn}
+use Rattle.job.specs.Sums.{lastIn}
 use Rattle.curves.proofs.MidLaws.{lower-parts, part-get}
-use Rattle.curves.proofs.SumsLaws.{place-fits}
-use lib.ListN.{length, take, drop, getD, length-take}
+use Rattle.job.proofs.SumsLaws.{place-fits}
+use lib.ListN.{length, take, drop, getD}
+use borrow.Rule.Slice.PartMut.{same-len-mid}
+use Rattle.base.proofs.TableLaws.{length-part}
 use lib.Seq.{getD-take}
-use mathlib.Core.Path.{_≡_, refl, ap, _∙_}
-use Prim.Native.Nat.{ℕ, _+_, _-_, _≤_, _<_}
+use mathlib.Core.Path.{_≡_, refl, ap, sym, _∙_}
+use Prim.Native.Nat.{ℕ, _+_, _-_, _≤_, _<_, min}
 use native.Mathlib.Omega.{arith}
 use borrow.Author.Needs.{needs}
 use Rattle.curves.proofs.lower_to.Statement.{statement}
 use Rattle.curves.proofs.lower_to.Tie as tie
-use Rattle.curves.proofs.lower_to.Reads as reads
-use Rattle.curves.proofs.lower_to.Lts as lts
-use Rattle.curves.proofs.lower_all.Reads as lower-all-reads
-use Rattle.curves.proofs.lower_by.Reads as lower-by-reads
-use Rattle.curves.proofs.shorter.Reads as shorter-reads
 
 sub-last : tie.Need-sub-last
 sub-last c = search needs
@@ -30,14 +27,14 @@ add-last c =
     let st = c .before .before .before in
     omega (arith, st .pre .0 .fits, st .pre .1)
 
-shorter-requires : tie.Need-shorter-requires
-shorter-requires c κs = search needs
+min-usize-requires : tie.Need-min-usize-requires
+min-usize-requires c κs = search needs
 
-sub-shorter : tie.Need-sub-shorter
-sub-shorter c = search needs
+sub-min-usize : tie.Need-sub-min-usize
+sub-min-usize c = search needs
 
-shorter-requires-2 : tie.Need-shorter-requires-2
-shorter-requires-2 c κs = search needs
+min-usize-requires-2 : tie.Need-min-usize-requires-2
+min-usize-requires-2 c κs = search needs
 
 add-full : tie.Need-add-full
 add-full c = search needs
@@ -79,15 +76,24 @@ lower-by-requires : tie.Need-lower-by-requires
 lower-by-requires c κs =
     let st = c .before .before .before .before .before .before .before .before .before .before .before in
     let sums = st .args .sums .now in
-    let n = c .before .before .before .before .before .before .shorter2 .result in (
-      simp length-take (omega (arith, c .before .before .before .before .before .before .shorter2 .ensures)),
+    let n = c .before .before .before .before .before .before .min-usize2 in
+    let s = c .before .before .before .before .before .before .before .min-usize in
+    let low = c .before .before .before .before .lower-all in
+    let long = same-len-mid 0 (s .result - 0) (st .args .out .now) (low .last .0) (low .kept .0) in
+    let in-sums : n .result ≤ length sums = omega (arith, n .ensures) in (
+      length-part 0 (n .result) sums (omega arith) in-sums
+          ∙ omega arith
+          ∙ sym (length-part (s .result) (s .result + n .result) _ (omega arith) (inside _ _ _ _ _ long (s .ensures) (n .ensures))),
       (
         st .pre .1,
         λ k q.
-            let h : k < n = omega (arith, simp length-take at q) in
-            rw (getD-take (n - 0) sums k 0 (omega arith)) (place-fits sums (st .pre .0) k (omega (arith, c .before .before .before .before .before .before .shorter2 .ensures))),
+            let h : k < n .result - 0 = rw (length-part 0 (n .result) sums (omega arith) in-sums) at q in
+            rw (getD-take (n .result - 0) sums k 0 h) (place-fits sums (st .pre .0) k (omega arith)),
       ),
     )
+  where
+    inside : (s n delay frames long : ℕ) → {x : ℕ} → x ≡ long → s ≡ min delay long → n ≡ min (long - s) frames → s + n ≤ x
+    inside s n delay frames long e f g = omega arith
 
 mul-lower-all : tie.Need-mul-lower-all
 mul-lower-all c = search needs
@@ -112,10 +118,13 @@ unfolding lastIn
 returns c =
     let st = c .before .before .before .before .before .before .before .before .before .before .before .before .before .before .before .before .before .before in
     let a = st .args in
-    let s = c .before .before .before .before .before .before .before .before .before .before .before .before .before .before .shorter .result in
-    let n = c .before .before .before .before .before .before .before .before .before .before .before .before .before .shorter2 .result in
+    let s = c .before .before .before .before .before .before .before .before .before .before .before .before .before
+    .before .min-usize .result in
+    let n = c .before .before .before .before .before .before .before .before .before .before .before .before .before .min-usize2 .result in
     lower-parts (a .out .now) (a .sums .now) (take (n - 0) (drop 0 (a .sums .now))) _ _ _ (st .pre .0) (a .delay) (a .plus) s n (s - 0) (s + n - s) (length (a .out .now) - (s + n))
-    (c .before .before .before .before .before .before .before .before .before .before .before .before .before .before .shorter .ensures) (c .before .before .before .before .before .before .before .before .before .before .before .before .before .shorter2 .ensures) (omega arith) (omega arith) refl
+    (c .before .before .before .before .before .before .before .before .before .before .before .before .before
+    .before .min-usize .ensures) (c .before .before .before .before .before .before .before .before .before .before .before
+    .before .before .min-usize2 .ensures) (omega arith) (omega arith) refl
     (λ j h. part-get (a .sums .now) 0 (n - 0) j (omega arith) ∙ ap (λ (z : ℕ). getD (a .sums .now) z 0) (omega arith))
     (c .before .before .before .before .before .before .before .before .before .before .before .lower-all .ensures) (c .before .before .before .before .before .before .lower-by .ensures) (c .before .before .lower-all2 .ensures)
 
@@ -127,9 +136,9 @@ lower-to-spec =
     mul-last
     shared-slice-read-last
     add-last
-    shorter-requires
-    sub-shorter
-    shorter-requires-2
+    min-usize-requires
+    sub-min-usize
+    min-usize-requires-2
     add-full
     sub-lower-all
     part-lower-all-start

@@ -1,12 +1,7 @@
-use Rattle.curves.specs.Curves.{sumsIn}
-use mathlib.Core.Path.{_≡_, _∙_}
-use native.Mathlib.Omega.{arith}
+use Rattle.job.specs.Sums.{sumsIn}
 use borrow.Author.Needs.{needs}
 use Rattle.curves.proofs.played.Statement.{statement}
 use Rattle.curves.proofs.played.Tie as tie
-use Rattle.curves.proofs.played.Reads as reads
-use Rattle.curves.proofs.played.Lts as lts
-use Rattle.curves.proofs.place.Reads as place-reads
 
 sub-last : tie.Need-sub-last
 sub-last c = search needs

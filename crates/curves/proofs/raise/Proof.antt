@@ -1,66 +1,60 @@
-use Rattle.curves.specs.Curves.{lastIn}
+use Rattle.job.specs.Sums.{lastIn}
 use Rattle.curves.proofs.MidLaws.{raise-parts, part-get}
 use lib.ListN.{length, take, drop, getD}
-use mathlib.Core.Path.{_≡_, refl, ap, _∙_}
-use Prim.Native.Nat.{ℕ, _+_, _-_, _≤_, _<_}
+use mathlib.Core.Path.{refl, ap, _∙_}
+use Prim.Native.Nat.{ℕ, _+_, _-_}
 use native.Mathlib.Omega.{arith}
 use borrow.Author.Needs.{needs}
 use Rattle.curves.proofs.raise.Statement.{statement}
 use Rattle.curves.proofs.raise.Tie as tie
-use Rattle.curves.proofs.raise.Reads as reads
-use Rattle.curves.proofs.raise.Lts as lts
-use Rattle.curves.proofs.less_by.Reads as less-by-reads
-use Rattle.curves.proofs.raise_by.Reads as raise-by-reads
-use Rattle.curves.proofs.raise_to.Reads as raise-to-reads
-use Rattle.curves.proofs.shorter.Reads as shorter-reads
 
-sub-less-by : tie.Need-sub-less-by
-sub-less-by c = search needs
+sub-minus : tie.Need-sub-minus
+sub-minus c = search needs
 
-mul-less-by : tie.Need-mul-less-by
-mul-less-by c = search needs
+mul-minus : tie.Need-mul-minus
+mul-minus c = search needs
 
-shared-slice-read-less-by : tie.Need-shared-slice-read-less-by
-shared-slice-read-less-by c = search needs
+shared-slice-read-minus : tie.Need-shared-slice-read-minus
+shared-slice-read-minus c = search needs
 
-less-by-requires : tie.Need-less-by-requires
-less-by-requires c κs = search needs
+minus-requires : tie.Need-minus-requires
+minus-requires c κs = search needs
 
-shorter-requires : tie.Need-shorter-requires
-shorter-requires c κs = search needs
+min-usize-requires : tie.Need-min-usize-requires
+min-usize-requires c κs = search needs
 
-sub-shorter : tie.Need-sub-shorter
-sub-shorter c = search needs
+sub-min-usize : tie.Need-sub-min-usize
+sub-min-usize c = search needs
 
-shorter-requires-2 : tie.Need-shorter-requires-2
-shorter-requires-2 c κs = search needs
+min-usize-requires-2 : tie.Need-min-usize-requires-2
+min-usize-requires-2 c κs = search needs
 
 add-full : tie.Need-add-full
 add-full c = search needs
 
-mul-raise-by : tie.Need-mul-raise-by
-mul-raise-by c = search needs
+sub-raise-row-less : tie.Need-sub-raise-row-less
+sub-raise-row-less c = search needs
 
-sub-raise-by : tie.Need-sub-raise-by
-sub-raise-by c = search needs
+part-raise-row-less-start : tie.Need-part-raise-row-less-start
+part-raise-row-less-start c = search needs
 
-part-raise-by-start : tie.Need-part-raise-by-start
-part-raise-by-start c = search needs
+part-raise-row-less-end : tie.Need-part-raise-row-less-end
+part-raise-row-less-end c = search needs
 
-part-raise-by-end : tie.Need-part-raise-by-end
-part-raise-by-end c = search needs
+mul-raise-row-less : tie.Need-mul-raise-row-less
+mul-raise-row-less c = search needs
 
-sub-raise-by-2 : tie.Need-sub-raise-by-2
-sub-raise-by-2 c = search needs
+sub-raise-row-less-2 : tie.Need-sub-raise-row-less-2
+sub-raise-row-less-2 c = search needs
 
-part-raise-by-start-2 : tie.Need-part-raise-by-start-2
-part-raise-by-start-2 c = search needs
+part-raise-row-less-start-2 : tie.Need-part-raise-row-less-start-2
+part-raise-row-less-start-2 c = search needs
 
-part-raise-by-end-2 : tie.Need-part-raise-by-end-2
-part-raise-by-end-2 c = search needs
+part-raise-row-less-end-2 : tie.Need-part-raise-row-less-end-2
+part-raise-row-less-end-2 c = search needs
 
-raise-by-requires : tie.Need-raise-by-requires
-raise-by-requires c κs = search needs
+raise-row-less-requires : tie.Need-raise-row-less-requires
+raise-row-less-requires c κs = search needs
 
 mul-raise-to : tie.Need-mul-raise-to
 mul-raise-to c = search needs
@@ -85,34 +79,35 @@ unfolding lastIn
 returns c =
     let st = c .before .before .before .before .before .before .before .before .before .before .before .before .before .before .before in
     let a = st .args in
-    let value = c .before .before .before .before .before .before .before .before .before .before .before .less-by .ensures in
-    let s = c .before .before .before .before .before .before .before .before .before .before .shorter .result in
-    let n = c .before .before .before .before .before .before .before .before .before .shorter2 .result in
+    let value = c .before .before .before .before .before .before .before .before .before .before .before .minus .ensures in
+    let s = c .before .before .before .before .before .before .before .before .before .before .min-usize .result in
+    let n = c .before .before .before .before .before .before .before .before .before .min-usize2 .result in
     raise-parts (a .out .now) (a .sums .now) (take (n - 0) (drop 0 (a .sums .now))) _ _ (st .pre) (a .delay) (a .less) s n (s + n - s) (length (a .out .now) - (s + n))
-    (c .before .before .before .before .before .before .before .before .before .before .shorter .ensures) (c .before .before .before .before .before .before .before .before .before .shorter2 .ensures) (omega arith) refl
+    (c .before .before .before .before .before .before .before .before .before .before .min-usize .ensures)
+    (c .before .before .before .before .before .before .before .before .before .min-usize2 .ensures) (omega arith) refl
     (λ j h. part-get (a .sums .now) 0 (n - 0) j (omega arith) ∙ ap (λ (z : ℕ). getD (a .sums .now) z 0) (omega arith))
-    (c .before .before .before .before .before .before .raise-by .ensures) (rw value at (c .before .before .raise-to .ensures))
+    (c .before .before .before .before .before .before .raise-row-less .ensures) (rw value at (c .before .before .raise-to .ensures))
 
 pub raise-spec : {M : Type 1} → statement M
 raise-spec =
     tie.close
     (tie.spec
-    sub-less-by
-    mul-less-by
-    shared-slice-read-less-by
-    less-by-requires
-    shorter-requires
-    sub-shorter
-    shorter-requires-2
+    sub-minus
+    mul-minus
+    shared-slice-read-minus
+    minus-requires
+    min-usize-requires
+    sub-min-usize
+    min-usize-requires-2
     add-full
-    mul-raise-by
-    sub-raise-by
-    part-raise-by-start
-    part-raise-by-end
-    sub-raise-by-2
-    part-raise-by-start-2
-    part-raise-by-end-2
-    raise-by-requires
+    sub-raise-row-less
+    part-raise-row-less-start
+    part-raise-row-less-end
+    mul-raise-row-less
+    sub-raise-row-less-2
+    part-raise-row-less-start-2
+    part-raise-row-less-end-2
+    raise-row-less-requires
     mul-raise-to
     sub-raise-to
     part-raise-to-start

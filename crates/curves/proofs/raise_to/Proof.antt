@@ -1,16 +1,13 @@
-use Rattle.base.specs.Table.{tab, Filled}
+use Rattle.base.specs.Table.{Filled}
 use Rattle.base.proofs.TableLaws.{filled-none, filled-more, filled-ahead, filled-done}
 use lib.ListN.{length, getD}
 use mathlib.Core.List.{List}
-use mathlib.Core.Path.{_≡_, refl, ap, sym, _∙_}
-use Prim.Native.Nat.{ℕ, _+_, _-_, _≤_, _<_, max}
+use mathlib.Core.Path.{_≡_, _∙_}
+use Prim.Native.Nat.{ℕ, _-_, max}
 use borrow.Author.Needs.{needs}
 use native.Mathlib.Omega.{arith}
 use Rattle.curves.proofs.raise_to.Statement.{statement}
 use Rattle.curves.proofs.raise_to.Tie as tie
-use Rattle.curves.proofs.raise_to.Reads as reads
-use Rattle.curves.proofs.raise_to.Lts as lts
-use Rattle.curves.proofs.larger.Reads as larger-reads
 
 abbrev row : List ℕ → ℕ → ℕ → ℕ
 row out value k = max (getD out k 0) value
@@ -24,14 +21,14 @@ abbrev μ-loop : tie.MeasureT-loop
 loop-holds : tie.Need-loop-holds Inv-loop μ-loop
 loop-holds c = filled-none _ _
 
-mul-larger : tie.Need-mul-larger Inv-loop μ-loop
-mul-larger c = search needs
+mul-max : tie.Need-mul-max Inv-loop μ-loop
+mul-max c = search needs
 
-slice-read-larger : tie.Need-slice-read-larger Inv-loop μ-loop
-slice-read-larger c = search needs
+slice-read-max : tie.Need-slice-read-max Inv-loop μ-loop
+slice-read-max c = search needs
 
-larger-requires : tie.Need-larger-requires Inv-loop μ-loop
-larger-requires c κs = search needs
+max-requires : tie.Need-max-requires Inv-loop μ-loop
+max-requires c κs = search needs
 
 mul-out : tie.Need-mul-out Inv-loop μ-loop
 mul-out c = search needs
@@ -49,7 +46,8 @@ loop-again : tie.Need-loop-again Inv-loop μ-loop
 loop-again c =
     let l = c .before .before .before .loop in
     let a = c .before .before .before .before .before .args in
-    let e : c .larger .result ≡ row (a .out .now) (a .value) (l .k) = c .larger .ensures ∙ rw (filled-ahead _ (l .k) _ (l .out) (l .inv) (omega arith)) in
+    let e : c .max .result ≡ row (a .out .now) (a .value) (l .k) = c .max .ensures
+    ∙ rw (filled-ahead _ (l .k) _ (l .out) (l .inv) (omega arith)) in
     rw e (filled-more (row (a .out .now) (a .value)) (l .k) _ (l .out) (l .inv) (omega arith))
 
 same-length : tie.Need-same-length Inv-loop μ-loop
@@ -65,9 +63,9 @@ raise-to-spec =
     Inv-loop
     μ-loop
     loop-holds
-    mul-larger
-    slice-read-larger
-    larger-requires
+    mul-max
+    slice-read-max
+    max-requires
     mul-out
     slice-write-out
     add-k

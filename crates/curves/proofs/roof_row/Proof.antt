@@ -1,32 +1,25 @@
-use mathlib.Core.Path.{_≡_, refl, ap, sym, _∙_}
-use Prim.Native.Nat.{ℕ, _-_, _≤_, _<_}
-use lib.ListN.{length, getD}
+use mathlib.Core.Path.{sym, _∙_}
+use Prim.Native.Nat.{_-_}
 use Rattle.base.proofs.TableLaws.{length-tab}
 use Rattle.job.proofs.TreeLaws.{link-is}
-use Rattle.curves.specs.Curves.{lastIn}
+use Rattle.job.specs.Sums.{lastIn}
 use Rattle.curves.proofs.AllRowsLaws.{roof-leaf, roof-inner}
 use native.Mathlib.Omega.{arith}
 use borrow.Author.Needs.{needs}
 use Rattle.curves.proofs.roof_row.Statement.{statement}
 use Rattle.curves.proofs.roof_row.Tie as tie
-use Rattle.curves.proofs.roof_row.Reads as reads
-use Rattle.curves.proofs.roof_row.Lts as lts
-use Rattle.base.proofs.member.Reads as member-reads
-use Rattle.curves.proofs.level.Reads as level-reads
-use Rattle.curves.proofs.lower_to.Reads as lower-to-reads
-use Rattle.job.proofs.Job.leaves.Reads as leaves-reads
 
 sub-last : tie.Need-sub-last
 sub-last c = search needs
 
-mul-level : tie.Need-mul-level
-mul-level c = search needs
+mul-fill-row : tie.Need-mul-fill-row
+mul-fill-row c = search needs
 
-shared-slice-read-level : tie.Need-shared-slice-read-level
-shared-slice-read-level c = search needs
+shared-slice-read-fill-row : tie.Need-shared-slice-read-fill-row
+shared-slice-read-fill-row c = search needs
 
-level-requires : tie.Need-level-requires
-level-requires c κs = search needs
+fill-row-requires : tie.Need-fill-row-requires
+fill-row-requires c κs = search needs
 
 leaves-requires : tie.Need-leaves-requires
 leaves-requires c κs = search needs
@@ -49,8 +42,8 @@ element-copy-out-lower-to-2 c = search needs
 lower-to-requires : tie.Need-lower-to-requires
 lower-to-requires c κs =
     let st = c .before .before .before .before .before .before .before .before .before .before .before .before .before in
-    let small = st .pre .0 .memories (st .args .v) (link-is _ (st .args .v) (st .pre .1 .0 .0) (st .pre .1 .0 .1)) in
-    (st .pre .1 .1, omega (arith, small))
+    let small = st .pre .0 .tree .memories (st .args .v) (link-is _ (st .args .v) (st .pre .1 .0) (st .pre .1 .1)) in
+    (st .pre .0 .film, omega (arith, small))
 
 same-length : tie.Need-same-length
 same-length c = search needs
@@ -61,8 +54,8 @@ returns c =
     let d = c .before .before .before .before .before .before in
     let st = d .before .before .before .before .before .before .before .before .before .before in
     let is-leaf = sym (d .before .before .leaves .ensures (st .args .v)) ∙ sym (d .before .member .ensures) ∙ d .if1 .taken in
-    let level = d .before .before .before .before .before .level .ensures in
-    c .before .before .lower-to .ensures ∙ rw (level, length-tab) (roof-leaf _ (st .pre .0) _ _ _ _ is-leaf)
+    let fill-row = d .before .before .before .before .before .fill-row .ensures in
+    c .before .before .lower-to .ensures ∙ rw (fill-row, length-tab) (roof-leaf _ (st .pre .0 .tree) _ _ _ _ is-leaf)
 
 same-length-2 : tie.Need-same-length-2
 same-length-2 c = search needs
@@ -72,16 +65,16 @@ unfolding lastIn
 returns-2 c =
     let st = c .before .before .before .before .before .before .before .before .before .before in
     let none = sym (c .before .before .leaves .ensures (st .args .v)) ∙ sym (c .before .member .ensures) ∙ c .if1 .left in
-    c .before .before .before .before .before .level .ensures ∙ roof-inner _ (st .pre .0) _ _ _ _ none
+    c .before .before .before .before .before .fill-row .ensures ∙ roof-inner _ (st .pre .0 .tree) _ _ _ _ none
 
 pub roof-row-spec : {M : Type 1} → statement M
 roof-row-spec =
     tie.close
     (tie.spec
     sub-last
-    mul-level
-    shared-slice-read-level
-    level-requires
+    mul-fill-row
+    shared-slice-read-fill-row
+    fill-row-requires
     leaves-requires
     member-requires
     mul-lower-to

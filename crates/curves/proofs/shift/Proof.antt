@@ -1,16 +1,13 @@
-use Rattle.curves.specs.Curves.{sumsIn}
-use Rattle.base.specs.Table.{tab, Filled}
+use Rattle.job.specs.Sums.{sumsIn}
+use Rattle.base.specs.Table.{Filled}
 use Rattle.base.proofs.TableLaws.{filled-none, filled-more, filled-done}
 use lib.ListN.{length, getD}
-use mathlib.Core.Path.{_≡_, refl, ap, sym, _∙_}
-use Prim.Native.Nat.{ℕ, _+_, _-_, _≤_, _<_}
+use mathlib.Core.Path.{_≡_}
+use Prim.Native.Nat.{_-_}
 use borrow.Author.Needs.{needs}
 use native.Mathlib.Omega.{arith}
 use Rattle.curves.proofs.shift.Statement.{statement}
 use Rattle.curves.proofs.shift.Tie as tie
-use Rattle.curves.proofs.shift.Reads as reads
-use Rattle.curves.proofs.shift.Lts as lts
-use Rattle.curves.proofs.place.Reads as place-reads
 
 abbrev Inv-loop : tie.InvT-loop
 Inv-loop out₀ sums delay last k₀ out k = (last ≡ length sums - 1) × Filled (λ k. sumsIn sums (k - delay)) k out₀ out

@@ -10,11 +10,6 @@ use borrow.Author.Needs.{needs}
 use native.Mathlib.Omega.{arith}
 use Rattle.curves.proofs.shortest.Statement.{statement}
 use Rattle.curves.proofs.shortest.Tie as tie
-use Rattle.curves.proofs.shortest.Reads as reads
-use Rattle.curves.proofs.shortest.Lts as lts
-use Rattle.base.proofs.lowest.Reads as lowest-reads
-use Rattle.base.proofs.without_lowest.Reads as without-lowest-reads
-use Rattle.curves.proofs.shorter.Reads as shorter-reads
 
 abbrev Inv-loop : tie.InvT-loop
 Inv-loop set delay acc₀ rest₀ acc rest = Walked (λ g i. min g (getD delay i 0)) longestDelay set rest acc
@@ -31,14 +26,14 @@ low c = first-lt (c .before .loop .rest) (c .before .loop .inv .fits) (omega ari
 lowest-requires : tie.Need-lowest-requires Inv-loop μ-loop
 lowest-requires c κs = search needs
 
-mul-shorter : tie.Need-mul-shorter Inv-loop μ-loop
-mul-shorter c = omega (arith, low (c .before), c .lowest .ensures)
+mul-min-usize : tie.Need-mul-min-usize Inv-loop μ-loop
+mul-min-usize c = omega (arith, low (c .before), c .lowest .ensures)
 
-element-copy-out-shorter : tie.Need-element-copy-out-shorter Inv-loop μ-loop
-element-copy-out-shorter c = omega (arith, low (c .before), c .lowest .ensures)
+element-copy-out-min-usize : tie.Need-element-copy-out-min-usize Inv-loop μ-loop
+element-copy-out-min-usize c = omega (arith, low (c .before), c .lowest .ensures)
 
-shorter-requires : tie.Need-shorter-requires Inv-loop μ-loop
-shorter-requires c κs = search needs
+min-usize-requires : tie.Need-min-usize-requires Inv-loop μ-loop
+min-usize-requires c κs = search needs
 
 without-lowest-requires : tie.Need-without-lowest-requires Inv-loop μ-loop
 without-lowest-requires c κs = search needs
@@ -50,7 +45,7 @@ loop-again : tie.Need-loop-again Inv-loop μ-loop
 loop-again c =
     let b = c .before .before .before .before in
     let s = b .before .loop in
-    rw (c .before .shorter .ensures, c .before .before .before .lowest .ensures)
+    rw (c .before .min-usize .ensures, c .before .before .before .lowest .ensures)
     (walk-next _ _ _ (s .rest) (c .without-lowest .result) (s .acc) (s .inv) (omega arith) (c .without-lowest .ensures .1) (c .without-lowest .ensures .0))
 
 returns : tie.Need-returns Inv-loop μ-loop
@@ -64,9 +59,9 @@ shortest-spec =
     μ-loop
     loop-holds
     lowest-requires
-    mul-shorter
-    element-copy-out-shorter
-    shorter-requires
+    mul-min-usize
+    element-copy-out-min-usize
+    min-usize-requires
     without-lowest-requires
     loop-less
     loop-again

@@ -1,10 +1,8 @@
-use Rattle.curves.proofs.UpperRowLaws.{zero-none}
+use Rattle.curves.proofs.RowLaws.{zero-none}
 use native.Mathlib.Omega.{arith}
 use borrow.Author.Needs.{needs}
 use Rattle.curves.proofs.start_at_zero.Statement.{statement}
 use Rattle.curves.proofs.start_at_zero.Tie as tie
-use Rattle.curves.proofs.start_at_zero.Reads as reads
-use Rattle.curves.proofs.start_at_zero.Lts as lts
 
 slice-write-out : tie.Need-slice-write-out
 slice-write-out c = search needs

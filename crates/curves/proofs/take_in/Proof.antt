@@ -1,12 +1,9 @@
 use Rattle.curves.proofs.RowLaws.{raised-none}
-use Rattle.curves.proofs.SumsLaws.{film-of}
+use Rattle.job.proofs.SumsLaws.{film-of}
 use native.Mathlib.Omega.{arith}
 use borrow.Author.Needs.{needs}
 use Rattle.curves.proofs.take_in.Statement.{statement}
 use Rattle.curves.proofs.take_in.Tie as tie
-use Rattle.curves.proofs.take_in.Reads as reads
-use Rattle.curves.proofs.take_in.Lts as lts
-use Rattle.curves.proofs.raise.Reads as raise-reads
 
 raise-requires : tie.Need-raise-requires
 raise-requires c κs = search needs

@@ -2,8 +2,6 @@ use Rattle.smoothing.specs.Row.{ceilDiv}
 use borrow.Author.Needs.{needs}
 use Rattle.rows.proofs.ceil_div.Statement.{statement}
 use Rattle.rows.proofs.ceil_div.Tie as tie
-use Rattle.rows.proofs.ceil_div.Reads as reads
-use Rattle.rows.proofs.ceil_div.Lts as lts
 
 sub-result : tie.Need-sub-result
 sub-result c = search needs

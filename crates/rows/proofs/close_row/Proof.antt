@@ -9,10 +9,6 @@ use native.Mathlib.Omega.{arith}
 use borrow.Author.Needs.{needs}
 use Rattle.rows.proofs.close_row.Statement.{statement}
 use Rattle.rows.proofs.close_row.Tie as tie
-use Rattle.rows.proofs.close_row.Reads as reads
-use Rattle.rows.proofs.close_row.Lts as lts
-use Rattle.rows.proofs.copy_row.Reads as copy-row-reads
-use Rattle.rows.proofs.finish_row.Reads as finish-row-reads
 
 copy-row-requires : tie.Need-copy-row-requires
 copy-row-requires c κs =
@@ -63,10 +59,12 @@ returns c =
     let w = st .args .width in
     let a = (st .args .v - 1) * w in
     let part = row-part w plan (st .args .v) a (a + w) (omega arith) refl refl (within (c .before .before .before .before .before)) in
-    put-part a (a + w) plan _ _ (omega arith)
-    (c .before .before .finish-row .ensures .0
-    ∙ tab-both (λ x y. max x (y - st .args .amount)) (rowsIn w plan (st .args .v)) (rowsIn w plan (st .args .u)) w _ _ part
-    (c .before .before .before .before .before .before .before .copy-row .ensures))
+    let copied = c .before .before .before .before .before .before .before .copy-row .ensures in (
+      put-part a (a + w) plan _ _ (omega arith)
+          (c .before .before .finish-row .ensures .0
+          ∙ tab-both (λ x y. max x (y - st .args .amount)) (rowsIn w plan (st .args .v)) (rowsIn w plan (st .args .u)) w _ _ part copied),
+      copied,
+    )
 
 pub close-row-spec : {M : Type 1} → statement M
 close-row-spec =

@@ -4,10 +4,6 @@ use Rattle.rows.proofs.ClosingLaws.{close-is}
 use borrow.Author.Needs.{needs}
 use Rattle.rows.proofs.close_rows.Statement.{statement}
 use Rattle.rows.proofs.close_rows.Tie as tie
-use Rattle.rows.proofs.close_rows.Reads as reads
-use Rattle.rows.proofs.close_rows.Lts as lts
-use Rattle.rows.proofs.pass_down.Reads as pass-down-reads
-use Rattle.rows.proofs.pass_up.Reads as pass-up-reads
 
 pass-up-requires : tie.Need-pass-up-requires
 pass-up-requires c κs = search needs
@@ -34,9 +30,12 @@ same-length-2 c = search needs
 returns : tie.Need-returns
 returns c =
     let a = c .before .before .before .before .before .before .before .before .before .before .before .before .before .args in
-    λ k h.
-    close-is (treeFrom (a .nodes) (a .parent .now) (a .memory .now)) (slotIn (a .width) (a .plan .now) k) _ _
-    (c .before .before .before .before .before .before .before .before .before .pass-up .ensures k h) (c .before .before .before .before .pass-down .ensures k h)
+    let down = c .before .before .before .before .pass-down .ensures in (
+      λ k h.
+          close-is (treeFrom (a .nodes) (a .parent .now) (a .memory .now)) (slotIn (a .width) (a .plan .now) k) _ _
+          (c .before .before .before .before .before .before .before .before .before .pass-up .ensures k h) (down .0 k h),
+      down .1,
+    )
 
 pub close-rows-spec : {M : Type 1} → statement M
 close-rows-spec =

@@ -8,8 +8,6 @@ use borrow.Author.Needs.{needs}
 use native.Mathlib.Omega.{arith}
 use Rattle.rows.proofs.copy.Statement.{statement}
 use Rattle.rows.proofs.copy.Tie as tie
-use Rattle.rows.proofs.copy.Reads as reads
-use Rattle.rows.proofs.copy.Lts as lts
 
 abbrev Inv-loop : tie.InvT-loop
 Inv-loop from out₀ k₀ out k = Filled (rowIn from) k out₀ out

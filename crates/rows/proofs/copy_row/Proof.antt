@@ -6,13 +6,9 @@ use native.Mathlib.Omega.{arith}
 use borrow.Author.Needs.{needs}
 use Rattle.rows.proofs.copy_row.Statement.{statement}
 use Rattle.rows.proofs.copy_row.Tie as tie
-use Rattle.rows.proofs.copy_row.Reads as reads
-use Rattle.rows.proofs.copy_row.Lts as lts
-use Rattle.rows.proofs.clear.Reads as clear-reads
-use Rattle.rows.proofs.copy.Reads as copy-reads
 
-clear-requires : tie.Need-clear-requires
-clear-requires c κs = search needs
+fill-row-requires : tie.Need-fill-row-requires
+fill-row-requires c κs = search needs
 
 same-length : tie.Need-same-length
 same-length c = search needs
@@ -20,7 +16,7 @@ same-length c = search needs
 returns : tie.Need-returns
 returns c =
     let st = c .before .before .before .before .before .before .before in
-    c .before .before .clear .ensures ∙ rw (st .pre .1, c .before .before .before .before .if1 .taken)
+    c .before .before .fill-row .ensures ∙ rw (st .pre .1, c .before .before .before .before .if1 .taken)
 
 sub-a : tie.Need-sub-a
 sub-a c = search needs
@@ -65,7 +61,7 @@ pub copy-row-spec : {M : Type 1} → statement M
 copy-row-spec =
     tie.close
     (tie.spec
-    clear-requires
+    fill-row-requires
     same-length
     returns
     sub-a

@@ -3,9 +3,6 @@ use Rattle.rows.proofs.ClosingLaws.{finished}
 use borrow.Author.Needs.{needs}
 use Rattle.rows.proofs.finish_row.Statement.{statement}
 use Rattle.rows.proofs.finish_row.Tie as tie
-use Rattle.rows.proofs.finish_row.Reads as reads
-use Rattle.rows.proofs.finish_row.Lts as lts
-use Rattle.rows.proofs.raise_row_less.Reads as raise-row-less-reads
 
 raise-row-less-requires : tie.Need-raise-row-less-requires
 raise-row-less-requires c κs = search needs

@@ -10,10 +10,6 @@ use borrow.Author.Needs.{needs}
 use native.Mathlib.Omega.{arith}
 use Rattle.rows.proofs.lazy_row.Statement.{statement}
 use Rattle.rows.proofs.lazy_row.Tie as tie
-use Rattle.rows.proofs.lazy_row.Reads as reads
-use Rattle.rows.proofs.lazy_row.Lts as lts
-use Rattle.rows.proofs.greater.Reads as greater-reads
-use Rattle.rows.proofs.less.Reads as less-reads
 
 abbrev Inv-loop : tie.InvT-loop
 Inv-loop lower q out₀ k₀ next₀ out k next = (length out₀ ≡ length lower) × ((next ≡ lazy (length lower - 1) q (rowIn lower) (min k (length lower - 1))) × FilledFrom (lazy (length lower - 1) q (rowIn lower)) k out₀ out)
@@ -41,17 +37,17 @@ loop-holds c =
 sub-k : tie.Need-sub-k Inv-loop μ-loop
 sub-k c = search needs
 
-mul-greater : tie.Need-mul-greater Inv-loop μ-loop
-mul-greater c = search needs
+mul-max : tie.Need-mul-max Inv-loop μ-loop
+mul-max c = search needs
 
-shared-slice-read-greater : tie.Need-shared-slice-read-greater Inv-loop μ-loop
-shared-slice-read-greater c = search needs
+shared-slice-read-max : tie.Need-shared-slice-read-max Inv-loop μ-loop
+shared-slice-read-max c = search needs
 
-less-requires : tie.Need-less-requires Inv-loop μ-loop
-less-requires c κs = search needs
+minus-requires : tie.Need-minus-requires Inv-loop μ-loop
+minus-requires c κs = search needs
 
-greater-requires : tie.Need-greater-requires Inv-loop μ-loop
-greater-requires c κs = search needs
+max-requires : tie.Need-max-requires Inv-loop μ-loop
+max-requires c κs = search needs
 
 mul-out : tie.Need-mul-out Inv-loop μ-loop
 mul-out c = search needs
@@ -68,8 +64,9 @@ loop-again c =
     let st = c .before .before .before .before .before .before .before .before in
     let f = rowIn (st .args .lower .now) in
     let n = length (st .args .lower .now) in
-    let e : c .greater .result ≡ lazy (n - 1) (st .args .q) f (min (l .k - 1) (n - 1)) =
-    c .greater .ensures ∙ rw (c .before .less .ensures, l .inv .1 .0) (lazy-turn (n - 1) (st .args .q) f (l .k) (omega arith) (omega (arith, l .inv .1 .1 .0))) in
+    let e : c .max .result ≡ lazy (n - 1) (st .args .q) f (min (l .k - 1) (n - 1)) =
+    c .max .ensures ∙ rw (c .before .minus .ensures, l .inv .1 .0)
+    (lazy-turn (n - 1) (st .args .q) f (l .k) (omega arith) (omega (arith, l .inv .1 .1 .0))) in
     let d : min (l .k - 1) (n - 1) ≡ l .k - 1 = omega (arith, l .inv .1 .1 .0) in
     (l .inv .0, (e, rw (e, d) (filledFrom-more (lazy (n - 1) (st .args .q) f) (l .k) (st .args .out .now) (l .out) (omega arith) (l .inv .1 .1))))
 
@@ -93,10 +90,10 @@ lazy-row-spec =
     shared-slice-read-next
     loop-holds
     sub-k
-    mul-greater
-    shared-slice-read-greater
-    less-requires
-    greater-requires
+    mul-max
+    shared-slice-read-max
+    minus-requires
+    max-requires
     mul-out
     slice-write-out
     loop-less

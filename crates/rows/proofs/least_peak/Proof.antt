@@ -2,9 +2,6 @@ use mathlib.Core.Path.{refl}
 use borrow.Author.Needs.{needs}
 use Rattle.rows.proofs.least_peak.Statement.{statement}
 use Rattle.rows.proofs.least_peak.Tie as tie
-use Rattle.rows.proofs.least_peak.Reads as reads
-use Rattle.rows.proofs.least_peak.Lts as lts
-use Rattle.rows.proofs.search_by.Reads as search-by-reads
 
 search-by-requires : tie.Need-search-by-requires
 search-by-requires c κs = search needs

@@ -1,8 +1,7 @@
-use Prim.Native.Nat.{ℕ, _+_, _-_, _≤_, _<_, min}
+use Prim.Native.Nat.{ℕ, _+_, _-_, _≤_, min}
 use mathlib.Core.Path.{_≡_, refl, ap₂, _∙_}
 use mathlib.Core.List.{List}
 use lib.ListN.{length, getD, length-set}
-use Rattle.job.specs.Limits.{greatestTotal}
 use Rattle.rows.specs.Closing.{withPart}
 use Rattle.rows.proofs.ClosingLaws.{part-none, part-more, part-rest}
 use Rattle.rows.proofs.OpeningLaws.{other-kept, part-range}
@@ -10,9 +9,6 @@ use borrow.Author.Needs.{needs}
 use native.Mathlib.Omega.{arith}
 use Rattle.rows.proofs.lower_within.Statement.{statement}
 use Rattle.rows.proofs.lower_within.Tie as tie
-use Rattle.rows.proofs.lower_within.Reads as reads
-use Rattle.rows.proofs.lower_within.Lts as lts
-use Rattle.rows.proofs.lesser.Reads as lesser-reads
 
 abbrev lowered : List ℕ → ℕ → ℕ → ℕ → ℕ → ℕ
 lowered l to from plus k = min (getD l (to + k) 0) (getD l (from + k) 0 + plus)
@@ -28,34 +24,34 @@ loop-holds c =
     let g = c .before .args in
     (omega arith, (refl, part-none (lowered (g .plan .now) (g .to) (g .from) (g .plus)) (g .to) (g .plan .now)))
 
-add-lesser : tie.Need-add-lesser Inv-loop μ-loop
-add-lesser c = search needs
+add-min : tie.Need-add-min Inv-loop μ-loop
+add-min c = search needs
 
-mul-lesser : tie.Need-mul-lesser Inv-loop μ-loop
-mul-lesser c = search needs
+mul-min : tie.Need-mul-min Inv-loop μ-loop
+mul-min c = search needs
 
-slice-read-lesser : tie.Need-slice-read-lesser Inv-loop μ-loop
-slice-read-lesser c = search needs
+slice-read-min : tie.Need-slice-read-min Inv-loop μ-loop
+slice-read-min c = search needs
 
-add-lesser-2 : tie.Need-add-lesser-2 Inv-loop μ-loop
-add-lesser-2 c = search needs
+add-min-2 : tie.Need-add-min-2 Inv-loop μ-loop
+add-min-2 c = search needs
 
-mul-lesser-2 : tie.Need-mul-lesser-2 Inv-loop μ-loop
-mul-lesser-2 c = search needs
+mul-min-2 : tie.Need-mul-min-2 Inv-loop μ-loop
+mul-min-2 c = search needs
 
-slice-read-lesser-2 : tie.Need-slice-read-lesser-2 Inv-loop μ-loop
-slice-read-lesser-2 c = search needs
+slice-read-min-2 : tie.Need-slice-read-min-2 Inv-loop μ-loop
+slice-read-min-2 c = search needs
 
-add-lesser-3 : tie.Need-add-lesser-3 Inv-loop μ-loop
-add-lesser-3 c =
+add-min-3 : tie.Need-add-min-3 Inv-loop μ-loop
+add-min-3 c =
     let l = c .before .before .before .loop in
     let st = c .before .before .before .before .before in
     let g = st .args in
     let kept = other-kept (lowered (g .plan .now) (g .to) (g .from) (g .plus)) (g .to) (g .from) (g .width) (g .plan .now) (st .pre .0) (l .k) (l .plan) (l .inv .1 .1) (omega arith) in
     omega (arith, kept, st .pre .1 .0, st .pre .1 .1 (g .from + l .k) (omega (arith, st .pre .0 .second-in)))
 
-lesser-requires : tie.Need-lesser-requires Inv-loop μ-loop
-lesser-requires c κs = search needs
+min-requires : tie.Need-min-requires Inv-loop μ-loop
+min-requires c κs = search needs
 
 add-plan : tie.Need-add-plan Inv-loop μ-loop
 add-plan c = search needs
@@ -79,11 +75,12 @@ loop-again c =
     let g = st .args in
     let f = lowered (g .plan .now) (g .to) (g .from) (g .plus) in
     let old = part-rest f (g .to) (g .plan .now) (l .k) (l .plan) (l .inv .1 .1) (omega (arith, st .pre .0 .first-in)) (g .to + l .k) (omega arith) in
-    let e : c .lesser .result ≡ f (l .k) =
-    c .lesser .ensures ∙ ap₂ (λ (x y : ℕ). min x (y + g .plus)) old (other-kept f (g .to) (g .from) (g .width) (g .plan .now) (st .pre .0) (l .k) (l .plan) (l .inv .1 .1) (omega arith)) in (
+    let e : c .min .result ≡ f (l .k) =
+    c .min .ensures ∙ ap₂ (λ (x y : ℕ). min x (y + g .plus)) old
+    (other-kept f (g .to) (g .from) (g .width) (g .plan .now) (st .pre .0) (l .k) (l .plan) (l .inv .1 .1) (omega arith)) in (
       omega arith,
       (
-        length-set (l .plan) (g .to + l .k) (c .lesser .result) ∙ l .inv .1 .0,
+        length-set (l .plan) (g .to + l .k) (c .min .result) ∙ l .inv .1 .0,
         rw e (part-more f (g .to) (g .plan .now) (l .k) (l .plan) (l .inv .1 .1) (omega (arith, st .pre .0 .first-in))),
       ),
     )
@@ -107,14 +104,14 @@ lower-within-spec =
     Inv-loop
     μ-loop
     loop-holds
-    add-lesser
-    mul-lesser
-    slice-read-lesser
-    add-lesser-2
-    mul-lesser-2
-    slice-read-lesser-2
-    add-lesser-3
-    lesser-requires
+    add-min
+    mul-min
+    slice-read-min
+    add-min-2
+    mul-min-2
+    slice-read-min-2
+    add-min-3
+    min-requires
     add-plan
     mul-plan
     slice-write-plan

@@ -1,6 +1,6 @@
 use Prim.Native.Nat.{ℕ, _+_, _-_, _*_, _≤_, _<_, min}
-use mathlib.Core.Path.{_≡_, refl, sym, _∙_}
-use mathlib.Core.Logic.{_⊎_, inl, inr}
+use mathlib.Core.Path.{_≡_, refl, _∙_}
+use mathlib.Core.Logic.{inr}
 use native.Mathlib.Nat.{mul-le-mul-right}
 use lib.ListN.{length, getD}
 use Rattle.smoothing.specs.Lists.{familyIn}
@@ -14,9 +14,6 @@ use borrow.Author.Needs.{needs}
 use native.Mathlib.Omega.{arith}
 use Rattle.rows.proofs.open_down.Statement.{statement}
 use Rattle.rows.proofs.open_down.Tie as tie
-use Rattle.rows.proofs.open_down.Reads as reads
-use Rattle.rows.proofs.open_down.Lts as lts
-use Rattle.rows.proofs.lower_within.Reads as lower-within-reads
 
 abbrev Inv-loop : tie.InvT-loop
 Inv-loop plan₀ parent nodes width v₀ plan v =

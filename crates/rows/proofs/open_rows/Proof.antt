@@ -1,15 +1,9 @@
-use Prim.Native.Nat.{ℕ}
-use mathlib.Core.Path.{_≡_, _∙_}
+use mathlib.Core.Path.{_∙_}
 use Rattle.rows.specs.Closing.{treeFrom, slotIn}
 use Rattle.rows.proofs.OpeningLaws.{open-is}
-use native.Mathlib.Omega.{arith}
 use borrow.Author.Needs.{needs}
 use Rattle.rows.proofs.open_rows.Statement.{statement}
 use Rattle.rows.proofs.open_rows.Tie as tie
-use Rattle.rows.proofs.open_rows.Reads as reads
-use Rattle.rows.proofs.open_rows.Lts as lts
-use Rattle.rows.proofs.open_down.Reads as open-down-reads
-use Rattle.rows.proofs.open_up.Reads as open-up-reads
 
 open-up-requires : tie.Need-open-up-requires
 open-up-requires c κs = search needs

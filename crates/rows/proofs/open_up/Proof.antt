@@ -1,6 +1,6 @@
-use Prim.Native.Nat.{ℕ, _+_, _-_, _*_, _≤_, _<_, min}
+use Prim.Native.Nat.{ℕ, _+_, _-_, _*_, _≤_, _<_}
 use mathlib.Core.Path.{_≡_, refl, sym, _∙_}
-use mathlib.Core.Logic.{_⊎_, inl, inr}
+use mathlib.Core.Logic.{inl}
 use lib.ListN.{length, getD}
 use Rattle.smoothing.specs.Lists.{familyIn}
 use Rattle.smoothing.specs.Tree.{passUp, openUp}
@@ -12,9 +12,6 @@ use borrow.Author.Needs.{needs}
 use native.Mathlib.Omega.{arith}
 use Rattle.rows.proofs.open_up.Statement.{statement}
 use Rattle.rows.proofs.open_up.Tie as tie
-use Rattle.rows.proofs.open_up.Reads as reads
-use Rattle.rows.proofs.open_up.Lts as lts
-use Rattle.rows.proofs.lower_within.Reads as lower-within-reads
 
 abbrev Inv-loop : tie.InvT-loop
 Inv-loop plan₀ parent memory nodes width v₀ plan v =

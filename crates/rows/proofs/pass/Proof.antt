@@ -10,9 +10,6 @@ use borrow.Author.Needs.{needs}
 use native.Mathlib.Omega.{arith}
 use Rattle.rows.proofs.pass.Statement.{statement}
 use Rattle.rows.proofs.pass.Tie as tie
-use Rattle.rows.proofs.pass.Reads as reads
-use Rattle.rows.proofs.pass.Lts as lts
-use Rattle.rows.proofs.Search.look.Reads as look-reads
 
 abbrev Inv-loop : tie.InvT-loop
 Inv-loop lower upper p stride rise s₀ at₀ next₀ s at next =

@@ -1,19 +1,16 @@
-use Prim.Native.Nat.{ℕ, _+_, _-_, _*_, _≤_, _<_}
+use Prim.Native.Nat.{_+_, _-_, _*_, _≤_, _<_}
 use mathlib.Core.Path.{_≡_, refl, sym, _∙_}
 use native.Mathlib.Nat.{mul-le-mul-right}
 use Rattle.smoothing.specs.Lists.{familyIn}
 use Rattle.smoothing.specs.Tree.{passDown, closeDown}
 use Rattle.smoothing.proofs.LoopLaws.{passDown-none}
-use Rattle.rows.specs.Closing.{treeFrom, slotIn}
-use Rattle.rows.proofs.ClosingLaws.{row-within, down-turn}
+use Rattle.rows.specs.Closing.{treeFrom, AtEachSlot, lentRow}
+use Rattle.rows.proofs.ClosingLaws.{row-within, down-turn, lent-none, lent-turn}
 use lib.ListN.{length, getD}
 use borrow.Author.Needs.{needs}
 use native.Mathlib.Omega.{arith}
 use Rattle.rows.proofs.pass_down.Statement.{statement}
 use Rattle.rows.proofs.pass_down.Tie as tie
-use Rattle.rows.proofs.pass_down.Reads as reads
-use Rattle.rows.proofs.pass_down.Lts as lts
-use Rattle.rows.proofs.close_row.Reads as close-row-reads
 
 abbrev Inv-loop : tie.InvT-loop
 Inv-loop plan₀ above₀ parent memory nodes width v₀ plan above v =
@@ -21,14 +18,20 @@ Inv-loop plan₀ above₀ parent memory nodes width v₀ plan above v =
     × ((v ≤ nodes)
     × ((length plan ≡ length plan₀)
     × ((length above ≡ width)
-    × ((k : ℕ) → k < width
-    → slotIn width plan k ≡ passDown (familyIn parent) (closeDown (treeFrom nodes parent memory)) (v - 1) (slotIn width plan₀ k)))))
+    × (AtEachSlot width (passDown (familyIn parent) (closeDown (treeFrom nodes parent memory)) (v - 1)) plan₀ plan
+    × (above ≡ lentRow v width parent plan above₀)))))
 
 abbrev μ-loop : tie.MeasureT-loop
 μ-loop plan₀ above₀ parent memory nodes width v₀ plan above v = nodes - v
 
 loop-holds : tie.Need-loop-holds Inv-loop μ-loop
-loop-holds c = (omega arith, (c .before .before .pre .0 .some-node, (refl, (c .before .before .pre .1, λ k h. passDown-none _ _ _ 0 refl))))
+loop-holds c = (
+  omega arith,
+  (
+    c .before .before .pre .0 .some-node,
+    (refl, (c .before .before .pre .1, (λ k h. passDown-none _ _ _ 0 refl, lent-none _ _ _ _))),
+  ),
+)
 
 mul-u : tie.Need-mul-u Inv-loop μ-loop
 mul-u c = omega (arith, c .before .before .before .before .pre .0 .nodes-to)
@@ -84,9 +87,14 @@ loop-again c =
           r .kept .0 ∙ l .inv .1 .1 .0,
           (
             r .kept .1 .0 ∙ l .inv .1 .1 .1 .0,
-            λ k h.
-                rw (e, r .ensures)
-                (down-turn (treeFrom (st .args .nodes) (st .args .parent .now) (st .args .memory .now)) w (l .plan) (l .v) ((l .v - 1) * w) (l .inv .0) refl room k h _ (l .inv .1 .1 .1 .1 k h)),
+            (
+              λ k h.
+                  rw (e, r .ensures .0)
+                  (down-turn (treeFrom (st .args .nodes) (st .args .parent .now) (st .args .memory .now)) w (l .plan) (l .v)
+                  ((l .v - 1) * w) (l .inv .0) refl room k h _ (l .inv .1 .1 .1 .1 .0 k h)),
+              lent-turn w (st .args .parent .now) (l .plan) _ _ _ _ (l .v) (l .inv .0)
+                  (below (c .before .before .before .before .before .before .before .before) .0) room (r .ensures .0) (r .ensures .1),
+            ),
           ),
         ),
       ),
@@ -102,7 +110,7 @@ returns : tie.Need-returns Inv-loop μ-loop
 returns c =
     let l = c .before .loop in
     let e : l .v ≡ c .before .before .before .before .args .nodes = omega arith in
-    λ k h. rw e at (l .inv .1 .1 .1 .1 k h)
+    (λ k h. rw e at (l .inv .1 .1 .1 .1 .0 k h), rw e at (l .inv .1 .1 .1 .1 .1))
 
 pub pass-down-spec : {M : Type 1} → statement M
 pass-down-spec =

@@ -10,9 +10,6 @@ use borrow.Author.Needs.{needs}
 use native.Mathlib.Omega.{arith}
 use Rattle.rows.proofs.pass_up.Statement.{statement}
 use Rattle.rows.proofs.pass_up.Tie as tie
-use Rattle.rows.proofs.pass_up.Reads as reads
-use Rattle.rows.proofs.pass_up.Lts as lts
-use Rattle.rows.proofs.raise_within.Reads as raise-within-reads
 
 abbrev Inv-loop : tie.InvT-loop
 Inv-loop plan₀ parent nodes width v₀ plan v =

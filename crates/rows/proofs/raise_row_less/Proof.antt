@@ -3,16 +3,11 @@ use mathlib.Core.Path.{_≡_, ap, _∙_}
 use lib.ListN.{length}
 use Rattle.rows.specs.Row.{rowIn}
 use Rattle.base.specs.Table.{Filled}
-use Rattle.base.proofs.TableLaws.{filled-none, filled-more, filled-done}
-use Rattle.rows.proofs.RowLaws.{filled-rest}
+use Rattle.base.proofs.TableLaws.{filled-none, filled-more, filled-ahead, filled-done}
 use borrow.Author.Needs.{needs}
 use native.Mathlib.Omega.{arith}
 use Rattle.rows.proofs.raise_row_less.Statement.{statement}
 use Rattle.rows.proofs.raise_row_less.Tie as tie
-use Rattle.rows.proofs.raise_row_less.Reads as reads
-use Rattle.rows.proofs.raise_row_less.Lts as lts
-use Rattle.rows.proofs.greater.Reads as greater-reads
-use Rattle.rows.proofs.less.Reads as less-reads
 
 abbrev Inv-loop : tie.InvT-loop
 Inv-loop from amount out₀ k₀ out k = Filled (λ j. max (rowIn out₀ j) (rowIn from j - amount)) k out₀ out
@@ -23,23 +18,23 @@ abbrev μ-loop : tie.MeasureT-loop
 loop-holds : tie.Need-loop-holds Inv-loop μ-loop
 loop-holds c = filled-none _ _
 
-mul-greater : tie.Need-mul-greater Inv-loop μ-loop
-mul-greater c = search needs
+mul-max : tie.Need-mul-max Inv-loop μ-loop
+mul-max c = search needs
 
-slice-read-greater : tie.Need-slice-read-greater Inv-loop μ-loop
-slice-read-greater c = search needs
+slice-read-max : tie.Need-slice-read-max Inv-loop μ-loop
+slice-read-max c = search needs
 
-mul-less : tie.Need-mul-less Inv-loop μ-loop
-mul-less c = search needs
+mul-minus : tie.Need-mul-minus Inv-loop μ-loop
+mul-minus c = search needs
 
-shared-slice-read-less : tie.Need-shared-slice-read-less Inv-loop μ-loop
-shared-slice-read-less c = search needs
+shared-slice-read-minus : tie.Need-shared-slice-read-minus Inv-loop μ-loop
+shared-slice-read-minus c = search needs
 
-less-requires : tie.Need-less-requires Inv-loop μ-loop
-less-requires c κs = search needs
+minus-requires : tie.Need-minus-requires Inv-loop μ-loop
+minus-requires c κs = search needs
 
-greater-requires : tie.Need-greater-requires Inv-loop μ-loop
-greater-requires c κs = search needs
+max-requires : tie.Need-max-requires Inv-loop μ-loop
+max-requires c κs = search needs
 
 mul-out : tie.Need-mul-out Inv-loop μ-loop
 mul-out c = search needs
@@ -57,10 +52,11 @@ loop-again : tie.Need-loop-again Inv-loop μ-loop
 loop-again c =
     let l = c .before .before .before .before .before .loop in
     let a = c .before .before .before .before .before .before .before .before .args in
-    let e : c .greater .result ≡ max (rowIn (a .out .now) (l .k)) (rowIn (a .from .now) (l .k) - a .amount) =
-    c .greater .ensures
-    ∙ rw (c .before .less .ensures)
-    (ap (λ (x : ℕ). max x (rowIn (a .from .now) (l .k) - a .amount)) (filled-rest _ (l .k) (a .out .now) (l .out) (l .inv) (l .k) (omega arith))) in
+    let e : c .max .result ≡ max (rowIn (a .out .now) (l .k)) (rowIn (a .from .now) (l .k) - a .amount) =
+    c .max .ensures
+    ∙ rw (c .before .minus .ensures)
+    (ap (λ (x : ℕ). max x (rowIn (a .from .now) (l .k) - a .amount))
+    (filled-ahead _ (l .k) (a .out .now) (l .out) (l .inv) (omega arith))) in
     rw e (filled-more _ (l .k) (a .out .now) (l .out) (l .inv) (omega arith))
 
 same-length : tie.Need-same-length Inv-loop μ-loop
@@ -76,12 +72,12 @@ raise-row-less-spec =
     Inv-loop
     μ-loop
     loop-holds
-    mul-greater
-    slice-read-greater
-    mul-less
-    shared-slice-read-less
-    less-requires
-    greater-requires
+    mul-max
+    slice-read-max
+    mul-minus
+    shared-slice-read-minus
+    minus-requires
+    max-requires
     mul-out
     slice-write-out
     add-k

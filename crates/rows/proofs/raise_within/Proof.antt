@@ -7,9 +7,6 @@ use borrow.Author.Needs.{needs}
 use native.Mathlib.Omega.{arith}
 use Rattle.rows.proofs.raise_within.Statement.{statement}
 use Rattle.rows.proofs.raise_within.Tie as tie
-use Rattle.rows.proofs.raise_within.Reads as reads
-use Rattle.rows.proofs.raise_within.Lts as lts
-use Rattle.rows.proofs.greater.Reads as greater-reads
 
 abbrev Inv-loop : tie.InvT-loop
 Inv-loop plan₀ a b width k₀ plan k = (k ≤ width) × ((length plan ≡ length plan₀) × (plan ≡ withPart (λ j. max (getD plan₀ (a + j) 0) (getD plan₀ (b + j) 0)) a k plan₀))
@@ -22,26 +19,26 @@ loop-holds c =
     let g = c .before .args in
     (omega arith, (refl, part-none (λ j. max (getD (g .plan .now) (g .a + j) 0) (getD (g .plan .now) (g .b + j) 0)) (g .a) (g .plan .now)))
 
-add-greater : tie.Need-add-greater Inv-loop μ-loop
-add-greater c = search needs
+add-max : tie.Need-add-max Inv-loop μ-loop
+add-max c = search needs
 
-mul-greater : tie.Need-mul-greater Inv-loop μ-loop
-mul-greater c = search needs
+mul-max : tie.Need-mul-max Inv-loop μ-loop
+mul-max c = search needs
 
-slice-read-greater : tie.Need-slice-read-greater Inv-loop μ-loop
-slice-read-greater c = search needs
+slice-read-max : tie.Need-slice-read-max Inv-loop μ-loop
+slice-read-max c = search needs
 
-add-greater-2 : tie.Need-add-greater-2 Inv-loop μ-loop
-add-greater-2 c = search needs
+add-max-2 : tie.Need-add-max-2 Inv-loop μ-loop
+add-max-2 c = search needs
 
-mul-greater-2 : tie.Need-mul-greater-2 Inv-loop μ-loop
-mul-greater-2 c = search needs
+mul-max-2 : tie.Need-mul-max-2 Inv-loop μ-loop
+mul-max-2 c = search needs
 
-slice-read-greater-2 : tie.Need-slice-read-greater-2 Inv-loop μ-loop
-slice-read-greater-2 c = search needs
+slice-read-max-2 : tie.Need-slice-read-max-2 Inv-loop μ-loop
+slice-read-max-2 c = search needs
 
-greater-requires : tie.Need-greater-requires Inv-loop μ-loop
-greater-requires c κs = search needs
+max-requires : tie.Need-max-requires Inv-loop μ-loop
+max-requires c κs = search needs
 
 add-plan : tie.Need-add-plan Inv-loop μ-loop
 add-plan c = search needs
@@ -64,11 +61,11 @@ loop-again c =
     let g = c .before .before .before .before .before .before .args in
     let f : ℕ → ℕ = λ j. max (getD (g .plan .now) (g .a + j) 0) (getD (g .plan .now) (g .b + j) 0) in
     let old = part-rest f (g .a) (g .plan .now) (l .k) (l .plan) (l .inv .1 .1) (omega arith) in
-    let e : c .greater .result ≡ f (l .k) =
-    c .greater .ensures ∙ ap₂ (λ (x y : ℕ). max x y) (old (g .a + l .k) (omega arith)) (old (g .b + l .k) (omega arith)) in (
+    let e : c .max .result ≡ f (l .k) =
+    c .max .ensures ∙ ap₂ (λ (x y : ℕ). max x y) (old (g .a + l .k) (omega arith)) (old (g .b + l .k) (omega arith)) in (
       omega arith,
       (
-        length-set (l .plan) (g .a + l .k) (c .greater .result) ∙ l .inv .1 .0,
+        length-set (l .plan) (g .a + l .k) (c .max .result) ∙ l .inv .1 .0,
         rw e (part-more f (g .a) (g .plan .now) (l .k) (l .plan) (l .inv .1 .1) (omega arith)),
       ),
     )
@@ -89,13 +86,13 @@ raise-within-spec =
     Inv-loop
     μ-loop
     loop-holds
-    add-greater
-    mul-greater
-    slice-read-greater
-    add-greater-2
-    mul-greater-2
-    slice-read-greater-2
-    greater-requires
+    add-max
+    mul-max
+    slice-read-max
+    add-max-2
+    mul-max-2
+    slice-read-max-2
+    max-requires
     add-plan
     mul-plan
     slice-write-plan

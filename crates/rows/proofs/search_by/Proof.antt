@@ -7,14 +7,9 @@ use Rattle.rows.specs.Row.{rowIn}
 use Rattle.job.specs.Limits.{greatestTotal}
 use Rattle.rows.specs.Search.{searchIn}
 use Rattle.rows.proofs.SearchLaws.{least-range, step-range, step-peak, step-done}
-use borrow.Author.Needs.{needs}
 use native.Mathlib.Omega.{arith}
 use Rattle.rows.proofs.search_by.Statement.{statement}
 use Rattle.rows.proofs.search_by.Tie as tie
-use Rattle.rows.proofs.search_by.Reads as reads
-use Rattle.rows.proofs.search_by.Lts as lts
-use Rattle.rows.proofs.ceil_div.Reads as ceil-div-reads
-use Rattle.rows.proofs.pass.Reads as pass-reads
 
 abbrev Inv-loop : tie.InvT-loop
 Inv-loop lower upper start stride p₀ s₀ p s =

@@ -3,49 +3,44 @@ use Rattle.rows.specs.Search.{searchIn}
 use borrow.Author.Needs.{needs}
 use Rattle.rows.proofs.Search.look.Statement.{statement}
 use Rattle.rows.proofs.Search.look.Tie as tie
-use Rattle.rows.proofs.Search.look.Reads as reads
-use Rattle.rows.proofs.Search.look.Lts as lts
-use Rattle.rows.proofs.choose.Reads as choose-reads
-use Rattle.rows.proofs.greater.Reads as greater-reads
-use Rattle.rows.proofs.less.Reads as less-reads
-use Rattle.rows.proofs.lesser.Reads as lesser-reads
 
-lesser-requires : tie.Need-lesser-requires
-lesser-requires c κs = search needs
+min-requires : tie.Need-min-requires
+min-requires c κs = search needs
 
 add-reach : tie.Need-add-reach
 add-reach c = search needs
 
-add-choose : tie.Need-add-choose
-add-choose c = search needs
+add-select : tie.Need-add-select
+add-select c = search needs
 
-choose-requires : tie.Need-choose-requires
-choose-requires c κs = search needs
+select-requires : tie.Need-select-requires
+select-requires c κs = search needs
 
-less-requires : tie.Need-less-requires
-less-requires c κs = search needs
+minus-requires : tie.Need-minus-requires
+minus-requires c κs = search needs
 
-greater-requires : tie.Need-greater-requires
-greater-requires c κs = search needs
+max-requires : tie.Need-max-requires
+max-requires c κs = search needs
 
-choose-requires-2 : tie.Need-choose-requires-2
-choose-requires-2 c κs = search needs
+select-requires-2 : tie.Need-select-requires-2
+select-requires-2 c κs = search needs
 
 returns : tie.Need-returns
 returns c =
     let b = c .before .before .before in
     look-is _ _ _ (searchIn (b .before .before .before .before .before .args .self)) _ _ _ _ _
-    (b .before .before .before .lesser .ensures) (b .before .choose .ensures) (b .less .ensures) (c .before .greater .ensures) (c .choose2 .ensures)
+    (b .before .before .before .min .ensures) (b .before .select .ensures) (b .minus .ensures) (c .before .max .ensures)
+    (c .select2 .ensures)
 
 pub look-spec : {M : Type 1} → statement M
 look-spec =
     tie.close
     (tie.spec
-    lesser-requires
+    min-requires
     add-reach
-    add-choose
-    choose-requires
-    less-requires
-    greater-requires
-    choose-requires-2
+    add-select
+    select-requires
+    minus-requires
+    max-requires
+    select-requires-2
     returns)

@@ -1,20 +1,17 @@
-use Rattle.base.specs.Table.{tab, Filled}
+use Prim.Native.Nat.{_-_}
+use lib.ListN.{length}
+use Rattle.base.specs.Table.{Filled}
 use Rattle.base.proofs.TableLaws.{filled-none, filled-more, filled-done}
-use lib.ListN.{length, getD}
-use mathlib.Core.Path.{_≡_, refl, ap, sym, _∙_}
-use Prim.Native.Nat.{ℕ, _+_, _-_, _≤_, _<_}
 use borrow.Author.Needs.{needs}
 use native.Mathlib.Omega.{arith}
-use Rattle.curves.proofs.level.Statement.{statement}
-use Rattle.curves.proofs.level.Tie as tie
-use Rattle.curves.proofs.level.Reads as reads
-use Rattle.curves.proofs.level.Lts as lts
+use Rattle.rows.proofs.fill_row.Statement.{statement}
+use Rattle.rows.proofs.fill_row.Tie as tie
 
 abbrev Inv-loop : tie.InvT-loop
-Inv-loop out₀ value k₀ out k = Filled (λ k. value) k out₀ out
+Inv-loop value out₀ k₀ out k = Filled (λ _. value) k out₀ out
 
 abbrev μ-loop : tie.MeasureT-loop
-μ-loop out₀ value k₀ out k = length out₀ - k
+μ-loop value out₀ k₀ out k = length out₀ - k
 
 loop-holds : tie.Need-loop-holds Inv-loop μ-loop
 loop-holds c = filled-none _ _
@@ -32,16 +29,17 @@ loop-less : tie.Need-loop-less Inv-loop μ-loop
 loop-less c = search needs
 
 loop-again : tie.Need-loop-again Inv-loop μ-loop
-loop-again c = filled-more (λ k. c .before .before .args .value) (c .before .loop .k) _ (c .before .loop .out) (c .before .loop .inv) (omega arith)
+loop-again c =
+    filled-more (λ _. c .before .before .args .value) (c .before .loop .k) _ (c .before .loop .out) (c .before .loop .inv) (omega arith)
 
 same-length : tie.Need-same-length Inv-loop μ-loop
-same-length c = c .before .loop .inv .1 .0
+same-length c = search needs
 
 returns : tie.Need-returns Inv-loop μ-loop
-returns c = filled-done (λ k. c .before .before .args .value) _ _ _ (c .before .loop .inv) (omega arith)
+returns c = filled-done (λ _. c .before .before .args .value) _ _ _ (c .before .loop .inv) (omega arith)
 
-pub level-spec : {M : Type 1} → statement M
-level-spec =
+pub fill-row-spec : {M : Type 1} → statement M
+fill-row-spec =
     tie.close
     (tie.spec
     Inv-loop

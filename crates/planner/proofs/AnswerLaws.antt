@@ -5,6 +5,7 @@ use mathlib.Core.Path.{_≡_, refl, ap, sym, _∙_}
 use mathlib.Core.Logic.{inr}
 use Prim.Native.Nat.{ℕ, zero, suc, _+_, _-_, _*_, _≤_}
 use native.Mathlib.Omega.{arith}
+use native.Mathlib.Decide.{ℕ-discrete}
 use lib.Dec.{eqb}
 use lib.ListN.{length, getD}
 use borrow.Author.Tests.{eq-eqb, ne-eqb}
@@ -13,24 +14,28 @@ use Rattle.base.proofs.BoolLaws.{and-no-right}
 use Rattle.base.proofs.TableLaws.{length-tab, getD-tab, getD-rows, tab-cong}
 use Rattle.job.specs.Tree.{Tree, JobData, JobWithin, leaf, T, greatestDelay, H, planLength}
 use Rattle.job.specs.Bytes.{frameCount, jobOf}
-use Rattle.job.specs.Refusal.{refusal}
-use Rattle.job.specs.Read.{treeIn}
+use Rattle.job.specs.Refusal.{refusal, badLent}
+use Rattle.job.specs.Read.{treeIn, Accepted}
 use Rattle.job.specs.declared.Job.{Job}
-use Rattle.job.proofs.RefusalLaws.{Accepted}
 use Rattle.job.proofs.SlotLaws.{leaf-link}
+use Rattle.job.proofs.RefusalLaws.{accepted-within}
 use Rattle.smoothing.specs.Tree.{Link}
-use Rattle.smoothing.specs.Row.{peak}
-use Rattle.smoothing.specs.Plan.{Problem, linkPeak, plan}
+use Rattle.smoothing.specs.Row.{peak, leastPeak}
+use Rattle.smoothing.specs.Plan.{Problem, Feasible, linkPeak, plan}
+use Rattle.smoothing.proofs.CurveLaws.{plan-feasible}
 use Rattle.smoothing.proofs.RowLaws.{peak-same}
 use Rattle.smoothing.proofs.OptimalLaws.{optimal-same, plan-peak}
-use Rattle.curves.specs.Curves.{problem, sumsIn, lastIn}
-use Rattle.curves.proofs.SumsLaws.{sums-of, last-of}
+use Rattle.curves.specs.Curves.{lowerCurve, upperCurve, problem}
+use Rattle.curves.proofs.CurveEq.{lower-is, upper-is}
+use Rattle.job.specs.Sums.{sumsIn, lastIn}
+use Rattle.job.proofs.SumsLaws.{sums-of, last-of}
 use Rattle.planner.specs.declared.Answer.{Answer}
 use Rattle.planner.specs.declared.Answer.the-variants.{Refused, Planned}
 use Rattle.planner.specs.Rules.{Best}
 use Rattle.planner.specs.Answer.{earlyRefusal, planIn, Answers}
 use Rattle.planner.specs.Work.{Fed, Starves, AllFed, widthOf, planRowsOf, peaksOf, Worked}
-use Rattle.planner.proofs.KeepLaws.{problemOf, wellFormed, best-of-optimal, optimal-of-best, no-plan, plan-best, feasible-by-leaves}
+use Rattle.planner.proofs.WorkLaws.{leastPeak-same}
+use Rattle.planner.proofs.KeepLaws.{problemOf, wellFormed, to-theory, best-of-optimal, optimal-of-best, no-plan, plan-best, feasible-by-leaves}
 
 -- ---- refusals 1 to 11
 
@@ -38,11 +43,11 @@ pub early-read : (s : List ℕ) (p q : ℕ) → (refusal s ≡ 0 → ⊥) → ea
 unfolding earlyRefusal
 early-read s p q h = rw (ne-eqb (refusal s) 0 h) refl
 
-pub early-plan : (s : List ℕ) (p q : ℕ) → refusal s ≡ 0 → (p ≡ planLength (jobOf s) → ⊥) → earlyRefusal s p q ≡ 11
+pub early-plan : (s : List ℕ) (p q : ℕ) → refusal s ≡ 0 → (p ≡ planLength (jobOf s) → ⊥) → earlyRefusal s p q ≡ badLent
 unfolding earlyRefusal
 early-plan s p q h ne = rw (h, ne-eqb p (planLength (jobOf s)) ne) refl
 
-pub early-peaks : (s : List ℕ) (p q : ℕ) → refusal s ≡ 0 → (q ≡ jobOf s .tree .n - 1 → ⊥) → earlyRefusal s p q ≡ 11
+pub early-peaks : (s : List ℕ) (p q : ℕ) → refusal s ≡ 0 → (q ≡ jobOf s .tree .n - 1 → ⊥) → earlyRefusal s p q ≡ badLent
 unfolding earlyRefusal
 early-peaks s p q h ne = rw (h, and-no-right (eqb p (planLength (jobOf s))) (ne-eqb q (jobOf s .tree .n - 1) ne)) refl
 
@@ -65,22 +70,22 @@ module _ (j : JobData) (within : JobWithin j) (plan₁ : List ℕ) where
         ∙ getD-rows (λ v. tab (plan P (suc v)) (H j + 1)) (H j + 1) (j .tree .n - 1) i k (λ v. length-tab _ (H j + 1)) (omega (arith, l .1)) (omega arith)
         ∙ getD-tab (plan P (suc i)) (H j + 1) k (omega arith))
 
-    module _ (fed : AllFed (j .tree) (T j) (T j (j .M)) (H j + 1)) where
-      fine : (i : ℕ) → leaf (j .tree) i ≡ true → Fed (j .tree) (T j) (T j (j .M)) (H j + 1) i
-      fine = fed
+    pub peaks-given : Feasible P → peaksOf P (j .tree .n - 1) ≡ tab (λ i. peak (H j) (planIn j plan₁ (suc i))) (j .tree .n - 1)
+    peaks-given feasible =
+        tab-cong (λ i. linkPeak P (suc i)) _ (j .tree .n - 1)
+        (λ i h.
+        sym (plan-peak P (wellFormed j within) feasible (suc i) (omega arith, omega arith))
+        ∙ peak-same (H j) (plan P (suc i)) (planIn j plan₁ (suc i)) (cell (suc i) (omega arith, omega arith)))
 
+    module _ (fed : AllFed (j .tree) (T j) (T j (j .M)) (H j + 1)) where
       pub best-given : Best j (planIn j plan₁)
       best-given =
           best-of-optimal j within (planIn j plan₁)
           (optimal-same P (plan P) (planIn j plan₁) cell (wellFormed j within .ordered)
           (optimal-of-best j within (plan P) (plan-best j within (λ i e k h. fed i e k (omega arith)))))
 
-      pub peaks-given : peaksOf P (j .tree .n - 1) ≡ tab (λ i. peak (H j) (planIn j plan₁ (suc i))) (j .tree .n - 1)
-      peaks-given =
-          tab-cong (λ i. linkPeak P (suc i)) _ (j .tree .n - 1)
-          (λ i h.
-          sym (plan-peak P (wellFormed j within) (feasible-by-leaves j within (λ x e k r. fed x e k (omega arith))) (suc i) (omega arith, omega arith))
-          ∙ peak-same (H j) (plan P (suc i)) (planIn j plan₁ (suc i)) (cell (suc i) (omega arith, omega arith)))
+      pub feasible-given : Feasible P
+      feasible-given = feasible-by-leaves j within (λ i e k h. fed i e k (omega arith))
 
 -- ---- the same job, by its struct and by its bytes
 
@@ -138,7 +143,41 @@ module _ (s : List ℕ) (job : Job) (acc : Accepted s job) where
             omega (arith, w .0, width-is),
             (
               w .1 .0 ∙ last-of j,
-              (rows, (best-given j (acc .within) plan₁ rows fed, peaks-is (w .1 .1 .1 .1) ∙ peaks-given j (acc .within) plan₁ rows fed)),
+              (
+                rows,
+                (
+                  best-given j (acc .within) plan₁ rows fed,
+                  peaks-is (w .1 .1 .1 .1)
+                      ∙ peaks-given j (acc .within) plan₁ rows (feasible-given j (acc .within) plan₁ rows fed),
+                ),
+              ),
             ),
           ),
         )
+
+-- ---- the peaks by document 01's formula
+
+early-accepts : (s : List ℕ) (p q : ℕ) → earlyRefusal s p q ≡ 0 → refusal s ≡ 0
+early-accepts s p q h = go (ℕ-discrete (refusal s) 0)
+  where
+    go : Dec (refusal s ≡ 0) → refusal s ≡ 0
+    go (yes e) = e
+    go (no ne) = sym (early-read s p q ne) ∙ h
+
+-- each peak given is the least peak of its link by document 01's formula, which is `leastPeak`, over document 01's own curves
+pub peaks-least : (last total : ℕ) (s plan₀ plan₁ peaks₀ peaks₁ : List ℕ) → Answers (Planned last total) s plan₀ plan₁ peaks₀ peaks₁
+    → let j = jobOf s in
+    peaks₁ ≡ tab (λ i. leastPeak (H j) (lowerCurve (j .tree) (T j) (suc i)) (upperCurve (j .tree) (T j) (T j (j .M)) (suc i)))
+    (j .tree .n - 1)
+unfolding Answers linkPeak
+peaks-least last total s plan₀ plan₁ peaks₀ peaks₁ (early, (is-last, (is-total, (rows, (best, peaks))))) =
+    let j = jobOf s in
+    let within = accepted-within s (early-accepts s (length plan₀) (length peaks₀) early) in
+    let feasible = plan-feasible (problemOf j) (wellFormed j within) (planIn j plan₁)
+    (to-theory j within (planIn j plan₁) (best .keeps)) in
+    peaks
+    ∙ sym (peaks-given j within plan₁ rows feasible)
+    ∙ tab-cong (λ i. linkPeak (problemOf j) (suc i)) _ (j .tree .n - 1) (λ i h.
+    leastPeak-same (H j) _ _ _ _
+    (λ k r. sym (lower-is (j .tree) (within .tree) (T j) (T j (j .M)) (H j) (suc i) k (omega arith, omega arith)))
+    (λ k r. sym (upper-is (j .tree) (within .tree) (T j) (T j (j .M)) (H j) (suc i) k (omega arith, omega arith))))

@@ -15,7 +15,7 @@ use Rattle.smoothing.proofs.CurveLaws.{plan-feasible}
 use Rattle.smoothing.proofs.OptimalLaws.{plan-optimal, optimal-unique}
 use Rattle.curves.specs.Curves.{D, lowerCurve, upperCurve, low, high, problem}
 use Rattle.curves.proofs.UpperLaws.{high-under}
-use Rattle.curves.proofs.SumsLaws.{job-film}
+use Rattle.job.proofs.SumsLaws.{job-film}
 use Rattle.curves.proofs.CurveEq.{lower-is, upper-is, problem-well-formed}
 use Rattle.planner.specs.Rules.{P2, Keeps, Best}
 use Rattle.planner.proofs.RoomLaws.{upper-in-room, feasible-by-room}

@@ -15,10 +15,11 @@ use Rattle.job.proofs.SlotLaws.{leaf-link}
 use Rattle.smoothing.specs.Tree.{Link}
 use Rattle.smoothing.specs.Plan.{lower, Feasible}
 use Rattle.smoothing.proofs.CurveLaws.{feasible-from-high}
-use Rattle.curves.specs.Curves.{Film, D, lowerCurve, upperCurve, high, problem}
+use Rattle.curves.specs.Curves.{D, lowerCurve, upperCurve, high, problem}
+use Rattle.job.specs.Sums.{Film}
 use Rattle.curves.specs.Rows.{leafLower}
 use Rattle.curves.proofs.LowerLaws.{D-leaf, lower-root}
-use Rattle.curves.proofs.UpperLaws.{upper-is-greatest}
+use Rattle.curves.proofs.UpperLaws.{upper-is-greatest, high-leaf, high-inner}
 use Rattle.curves.proofs.CurveEq.{lower-is, upper-is, lower-top, problem-well-formed}
 use Rattle.curves.proofs.AllRowsLaws.{leaf-lower-is}
 use Rattle.planner.specs.Work.{Starves, AllFed}
@@ -27,19 +28,11 @@ use Rattle.planner.specs.Work.{Starves, AllFed}
 abbrev pub InRoom : Tree → (ℕ → ℕ) → ℕ → ℕ → Type 0
 InRoom t T w i = (k : ℕ) → k < w → lowerCurve t T i k ≤ D t T i k + t .memory i
 
--- what a link's own rules allow: at most D + b at a leaf; above slot 0 the lesser of that and T(M) there, and T(M) at an inner node
+-- what a leaf's own rules allow is at most D + b
 high-room : (t : Tree) (T : ℕ → ℕ) (top i k : ℕ) → leaf t i ≡ true → high t T top i k ≤ D t T i k + t .memory i
 unfolding high
 high-room t T top i zero e = omega arith
 high-room t T top i (suc k) e = rw e (omega arith)
-
-high-leaf : (t : Tree) (T : ℕ → ℕ) (top i k m : ℕ) → leaf t i ≡ true → m ≤ D t T i (suc k) + t .memory i → m ≤ top → m ≤ high t T top i (suc k)
-unfolding high
-high-leaf t T top i k m e room all = rw e (omega arith)
-
-high-inner : (t : Tree) (T : ℕ → ℕ) (top i k : ℕ) → leaf t i ≡ false → high t T top i (suc k) ≡ top
-unfolding high
-high-inner t T top i k e = rw e refl
 
 module _ (t : Tree) (within : TreeWithin t) (T : ℕ → ℕ) where
   linked : (i : ℕ) → leaf t i ≡ true → Link (t .n) i
@@ -82,8 +75,9 @@ module _ (t : Tree) (within : TreeWithin t) (T : ℕ → ℕ) where
       where
         at : (i k : ℕ) → Link (t .n) i → (b : Bool) → leaf t i ≡ b → 0 < k → k ≤ H → lowerCurve t T i k ≤ high t T top i k
         at i zero l b e p r = absurd (omega arith)
-        at i (suc k) l true e p r = high-leaf t T top i k _ e (fine i e (suc k) r) (lower-top t within T top H film i (suc k) l)
-        at i (suc k) l false e p r = omega (arith, lower-top t within T top H film i (suc k) l, high-inner t T top i k e)
+        at i (suc k) l true e p r =
+            omega (arith, fine i e (suc k) r, lower-top t within T top H film i (suc k) l, high-leaf t within T top i k e)
+        at i (suc k) l false e p r = omega (arith, lower-top t within T top H film i (suc k) l, high-inner t within T top i k e)
 
         under : (i : ℕ) → Link (t .n) i → (k : ℕ) → 0 < k → k ≤ H → lower (problem t T top H) i k ≤ high t T top i k
         under i l k p r = omega (arith, lower-is t within T top H i k l, at i k l (leaf t i) refl p r)

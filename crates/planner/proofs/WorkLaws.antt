@@ -15,11 +15,12 @@ use Rattle.job.specs.declared.Job.{Job}
 use Rattle.smoothing.specs.Tree.{Link, Ordered, close}
 use Rattle.smoothing.proofs.ClosedLaws.{close-monotone}
 use Rattle.job.proofs.TreeLaws.{link-is}
-use Rattle.smoothing.specs.Lists.{familyIn}
+use Rattle.rows.specs.Row.{rowIn, lazyRow, leastPeakOf}
 use Rattle.smoothing.specs.Row.{leastPeak, lazyBefore, lazy}
 use Rattle.smoothing.specs.Plan.{Problem, lower, upper, linkPeak, lazyPlan, plan}
-use Rattle.curves.specs.Curves.{lowerCurve, upperCurve, sumsIn, lastIn}
-use Rattle.curves.proofs.SumsLaws.{film-of}
+use Rattle.curves.specs.Curves.{lowerCurve, upperCurve}
+use Rattle.job.specs.Sums.{sumsIn, lastIn}
+use Rattle.job.proofs.SumsLaws.{film-of}
 use Rattle.curves.proofs.CurveEq.{lower-is, upper-is, lower-top}
 use Rattle.rows.specs.Search.{Searchable}
 use Rattle.rows.specs.Closing.{slotIn}
@@ -32,7 +33,8 @@ unfolding greatest
 greatest-cong f g zero h = refl
 greatest-cong f g (suc n) h = rw (greatest-cong f g n (λ i q. h i (omega arith)), h n (omega arith))
 
-leastPeak-same : (H : ℕ) (l l′ u u′ : ℕ → ℕ) → ((k : ℕ) → k ≤ H → l k ≡ l′ k) → ((k : ℕ) → k ≤ H → u k ≡ u′ k) → leastPeak H l u ≡ leastPeak H l′ u′
+pub leastPeak-same : (H : ℕ) (l l′ u u′ : ℕ → ℕ) → ((k : ℕ) → k ≤ H → l k ≡ l′ k) → ((k : ℕ) → k ≤ H → u k ≡ u′ k)
+    → leastPeak H l u ≡ leastPeak H l′ u′
 unfolding leastPeak
 leastPeak-same H l l′ u u′ same same′ =
     greatest-cong _ _ (suc H)
@@ -69,7 +71,7 @@ module _ (job : Job) (sums lowers kept : List ℕ) (ready : Ready job sums lower
 
   pub curves-searchable : Searchable lowerRow upperRow
   curves-searchable =
-      let film = film-of sums (ready .film) in
+      let film = film-of sums (ready .given .film) in
       let long = length-tab (lowerCurve (treeIn job) (sumsIn sums) v) (length lowers) in
       let long′ = length-tab (upperCurve (treeIn job) (sumsIn sums) (lastIn sums) v) (length lowers) in
       record {
@@ -80,40 +82,40 @@ module _ (job : Job) (sums lowers kept : List ℕ) (ready : Ready job sums lower
             omega (
               arith,
               getD-tab (lowerCurve (treeIn job) (sumsIn sums) v) (length lowers) k (omega (arith, long)),
-              lower-top (treeIn job) (ready .tree) (sumsIn sums) (lastIn sums) 0 film v k is-link,
-              ready .film .fits,
+              lower-top (treeIn job) (ready .given .tree) (sumsIn sums) (lastIn sums) 0 film v k is-link,
+              ready .given .film .fits,
             );
         upper-to = λ k h.
             omega (
               arith,
               getD-tab (upperCurve (treeIn job) (sumsIn sums) (lastIn sums) v) (length lowers) k (omega (arith, long′)),
               upper-top (treeIn job) (sumsIn sums) (lastIn sums) v k,
-              ready .film .fits,
+              ready .given .film .fits,
             );
       }
 
-  lower-here : (k : ℕ) → k ≤ length lowers - 1 → familyIn lowerRow k ≡ lower (problemIn job sums (length lowers)) v k
+  lower-here : (k : ℕ) → k ≤ length lowers - 1 → rowIn lowerRow k ≡ lower (problemIn job sums (length lowers)) v k
   lower-here k h =
       getD-tab (lowerCurve (treeIn job) (sumsIn sums) v) (length lowers) k (omega (arith, ready .wide))
-      ∙ lower-is (treeIn job) (ready .tree) (sumsIn sums) (lastIn sums) (length lowers - 1) v k is-link
+      ∙ lower-is (treeIn job) (ready .given .tree) (sumsIn sums) (lastIn sums) (length lowers - 1) v k is-link
 
-  upper-here : (k : ℕ) → k ≤ length lowers - 1 → familyIn upperRow k ≡ upper (problemIn job sums (length lowers)) v k
+  upper-here : (k : ℕ) → k ≤ length lowers - 1 → rowIn upperRow k ≡ upper (problemIn job sums (length lowers)) v k
   upper-here k h =
       getD-tab (upperCurve (treeIn job) (sumsIn sums) (lastIn sums) v) (length lowers) k (omega (arith, ready .wide))
-      ∙ upper-is (treeIn job) (ready .tree) (sumsIn sums) (lastIn sums) (length lowers - 1) v k is-link
+      ∙ upper-is (treeIn job) (ready .given .tree) (sumsIn sums) (lastIn sums) (length lowers - 1) v k is-link
 
-  pub peak-here : leastPeak (length lowerRow - 1) (familyIn lowerRow) (familyIn upperRow) ≡ linkPeak (problemIn job sums (length lowers)) v
+  pub peak-here : leastPeakOf lowerRow upperRow ≡ linkPeak (problemIn job sums (length lowers)) v
   unfolding linkPeak
   peak-here =
       rw (length-tab (lowerCurve (treeIn job) (sumsIn sums) v) (length lowers))
-      (leastPeak-same (length lowers - 1) (familyIn lowerRow) _ (familyIn upperRow) _ lower-here upper-here)
+      (leastPeak-same (length lowers - 1) (rowIn lowerRow) _ (rowIn upperRow) _ lower-here upper-here)
 
   pub lazy-here : (peak : ℕ) → peak ≡ linkPeak (problemIn job sums (length lowers)) v
-      → tab (lazy (length lowerRow - 1) peak (familyIn lowerRow)) (length lowerRow) ≡ lazyRowOf (problemIn job sums (length lowers)) (length lowers) (v - 1)
+      → lazyRow peak lowerRow ≡ lazyRowOf (problemIn job sums (length lowers)) (length lowers) (v - 1)
   lazy-here peak e =
       let back : suc (v - 1) ≡ v = omega arith in
       rw (length-tab (lowerCurve (treeIn job) (sumsIn sums) v) (length lowers), e, back)
-      (tab-cong _ _ (length lowers) (λ k h. lazy-same (length lowers - 1) (linkPeak (problemIn job sums (length lowers)) v) (familyIn lowerRow) _ lower-here k (omega arith)))
+      (tab-cong _ _ (length lowers) (λ k h. lazy-same (length lowers - 1) (linkPeak (problemIn job sums (length lowers)) v) (rowIn lowerRow) _ lower-here k (omega arith)))
 
 -- ---- rows closed at every slot
 

@@ -9,7 +9,7 @@ use lib.ListN.{length, take, drop}
 use Rattle.base.specs.Table.{tab, rowsOf}
 use Rattle.job.specs.Tree.{JobData, link, T, H, planLength}
 use Rattle.job.specs.Bytes.{jobOf}
-use Rattle.job.specs.Refusal.{refusal}
+use Rattle.job.specs.Refusal.{refusal, badLent}
 use Rattle.smoothing.specs.Row.{peak}
 use Rattle.smoothing.specs.Lists.{rowsIn}
 use Rattle.smoothing.specs.Plan.{plan}
@@ -32,6 +32,10 @@ abbrev pub totalOf : Answer → ℕ
 totalOf (Refused e) = 0
 totalOf (Planned last total) = total
 
+-- the refusal where no plan keeps the rules
+abbrev pub noPlan : ℕ
+noPlan = 12
+
 -- where the row of link i lies in a plan of so many numbers: where it starts, and its slots 0 to H; both 0 where a check before 11 refuses
 -- the job, no such link exists or the plan's length is wrong
 unfoldable pub rowPlace : List ℕ → ℕ → ℕ → Place
@@ -52,7 +56,7 @@ unfoldable pub earlyRefusal : List ℕ → ℕ → ℕ → ℕ
 earlyRefusal s planned peaks =
     let j = jobOf s in
     cond (eqb (refusal s) 0)
-    (cond (eqb planned (planLength j) && eqb peaks (j .tree .n - 1)) 0 11)
+    (cond (eqb planned (planLength j) && eqb peaks (j .tree .n - 1)) 0 badLent)
     (refusal s)
 
 -- the plan that a list of rows holds: link 1's row first
@@ -71,7 +75,8 @@ Answers (Refused e) s plan₀ plan₁ peaks₀ peaks₁ =
     let early = earlyRefusal s (length plan₀) (length peaks₀) in
     (plan₁ ≡ plan₀)
     × ((peaks₁ ≡ peaks₀)
-    × (((e ≡ early) × (early ≡ 0 → ⊥)) ⊎ ((early ≡ 0) × ((e ≡ 12) × ((S : ℕ → ℕ → ℕ) → Keeps (jobOf s) S → ⊥)))))
+    × (((e ≡ early) × (early ≡ 0 → ⊥))
+    ⊎ ((early ≡ 0) × ((e ≡ noPlan) × ((S : ℕ → ℕ → ℕ) → Keeps (jobOf s) S → ⊥)))))
 Answers (Planned last total) s plan₀ plan₁ peaks₀ peaks₁ =
     let j = jobOf s in
     (earlyRefusal s (length plan₀) (length peaks₀) ≡ 0)

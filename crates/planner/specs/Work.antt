@@ -2,27 +2,32 @@
 use mathlib.Core.Bool.{true}
 use mathlib.Core.List.{List}
 use mathlib.Core.Path.{_≡_}
-use Prim.Native.Nat.{ℕ, suc, _+_, _-_, _≤_, _<_}
+use Prim.Native.Nat.{ℕ, suc, _+_, _-_, _*_, _≤_, _<_}
 use lib.ListN.{length}
 use Rattle.base.specs.Table.{tab, rowsOf}
-use Rattle.job.specs.Limits.{mostFrames, mostSlots}
-use Rattle.job.specs.Tree.{Tree, TreeWithin, leaf, greatestDelay}
+use Rattle.job.specs.Limits.{mostSlots}
+use Rattle.job.specs.Tree.{Tree, leaf, greatestDelay}
 use Rattle.job.specs.Read.{treeIn}
 use Rattle.job.specs.declared.Job.{Job}
 use Rattle.smoothing.specs.Row.{lazy}
 use Rattle.smoothing.specs.Plan.{Problem, lower, linkPeak, plan}
-use Rattle.curves.specs.Curves.{lowerCurve, upperCurve, problem, sumsIn, lastIn, HoldsSums}
+use Rattle.curves.specs.Curves.{lowerCurve, upperCurve, problem}
+use Rattle.job.specs.Sums.{sumsIn, lastIn, WithSums}
+use Rattle.planner.specs.Answer.{noPlan}
 use Rattle.planner.specs.declared.Answer.{Answer}
 use Rattle.planner.specs.declared.Answer.the-variants.{Refused, Planned}
 
--- a job's struct, its sums, and two rows of the same width to work in
+-- a job's struct with its sums, and two rows of the same width to work in
 pub record Ready (job : Job) (sums lowers kept : List ℕ) : Type 0 where
-  pub tree : TreeWithin (treeIn job)
-  pub film : HoldsSums sums
-  pub sums-to : length sums ≤ mostFrames + 1
+  pub given : WithSums job sums
   pub wide : 0 < length lowers
   pub slots-to : length lowers ≤ mostSlots
   pub same : length kept ≡ length lowers
+
+-- a plan and peaks of the lengths that the job asks for, where rows have w slots
+pub record OutputsFit (job : Job) (w : ℕ) (plan peaks : List ℕ) : Type 0 where
+  pub plan-long : length plan ≡ (job .nodes - 1) * w
+  pub peaks-long : length peaks ≡ job .nodes - 1
 
 -- at leaf i lower is nowhere above upper, over slots 0 to w - 1
 abbrev pub Fed : Tree → (ℕ → ℕ) → ℕ → ℕ → ℕ → Type 0
@@ -62,7 +67,7 @@ widthOf job = job .frames + greatestDelay (treeIn job) + 1
 -- What the work on an accepted job gives: a starving leaf and nothing changed, or the theory's plan with its peaks.
 unfoldable pub Worked : Answer → Job → List ℕ → ℕ → List ℕ → List ℕ → List ℕ → List ℕ → Type 0
 Worked (Refused e) job sums w plan₀ plan₁ peaks₀ peaks₁ =
-    (e ≡ 12) × (Starves (treeIn job) (sumsIn sums) (lastIn sums) w × ((plan₁ ≡ plan₀) × (peaks₁ ≡ peaks₀)))
+    (e ≡ noPlan) × (Starves (treeIn job) (sumsIn sums) (lastIn sums) w × ((plan₁ ≡ plan₀) × (peaks₁ ≡ peaks₀)))
 Worked (Planned last total) job sums w plan₀ plan₁ peaks₀ peaks₁ =
     (last ≡ w - 1)
     × ((total ≡ lastIn sums)

@@ -1,24 +1,17 @@
 // The memory question: from memories to what every link sends in every slot; and the row of one link.
 // Definitions to believe: specs/Rules (the rules of a plan and the best plan), specs/Answer (what the functions below give).
 ghost use mathlib.Core.Bool.{true, false};
-ghost use mathlib.Core.List.{_++_};
 ghost use mathlib.Core.Path.{_≡_};
-ghost use Prim.Native.Nat.{ℕ, suc, _+_, _-_, _*_, _≤_, _<_};
-ghost use lib.ListN.{length, take, drop, set};
-ghost use Rattle.base.specs.Table.{tab, rowsOf};
-ghost use Rattle.job.specs.Read.{treeIn};
-ghost use Rattle.job.specs.Tree.{TreeWithin};
-ghost use Rattle.smoothing.specs.Lists.{familyIn};
-ghost use Rattle.smoothing.specs.Row.{leastPeak, lazy};
+ghost use Prim.Native.Nat.{_-_};
+ghost use lib.ListN.{length};
+ghost use Rattle.job.specs.Limits.{mostSlots};
+ghost use Rattle.job.specs.Read.{treeIn, Accepted};
+ghost use Rattle.job.specs.Sums.{WithSums, sumsOf, sumsIn, lastIn};
+ghost use Rattle.rows.specs.Row.{lazyRow, leastPeakOf};
 ghost use Rattle.rows.specs.Search.{Searchable};
-ghost use Rattle.curves.specs.Curves.{sumsIn, lastIn, HoldsSums};
 ghost use Rattle.curves.specs.Rows.{upperRows};
-ghost use Rattle.planner.specs.Work.{Ready, Starves, AllFed, problemIn, lazyRowsOf, planRowsOf, peaksOf, widthOf, Worked};
+ghost use Rattle.planner.specs.Work.{Ready, OutputsFit, Starves, AllFed, problemIn, lazyRowsOf, peaksOf, widthOf, Worked};
 ghost use Rattle.planner.specs.Answer.{rowPlace, rowOf, Answers};
-ghost use Rattle.job.specs.Limits.{mostFrames, mostSlots};
-ghost use Rattle.job.specs.Bytes.{frameCount, jobOf};
-ghost use Rattle.job.specs.Tree as tree;
-ghost use Rattle.job.proofs.RefusalLaws.{Accepted};
 use job::Job;
 
 // The answer of the memory question: a refusal by its number, or H and T(M).
@@ -27,13 +20,20 @@ pub enum Answer {
     Planned(u64, u64),
 }
 
+impl Answer {
+    // The number of the refusal where no plan keeps the rules.
+    pub const NO_PLAN: u64 = 12;
+}
+
 // The search for a starving leaf, which stops at the first leaf and slot found. A leaf below the root never starves; any other leaf's
 // lower curve comes from its parent's, for which the row is room. The most that a leaf may have is D + b here: no leaf has more by its
 // upper curve, and where no leaf needs more, lower is nowhere above upper.
 fn starves(job: Job, sums: &[u64], lowers: &mut [u64]) -> bool
-    requires { ⌜ TreeWithin (treeIn job) × HoldsSums (now sums) ⌝ }
-    ensures { λ r. ⌜ (r ≡ true → Starves (treeIn job) (sumsIn (now (sums .entry))) (lastIn (now (sums .entry))) (length (now (lowers .entry)))) ⌝ }
-    ensures { λ r. ⌜ (r ≡ false → AllFed (treeIn job) (sumsIn (now (sums .entry))) (lastIn (now (sums .entry))) (length (now (lowers .entry)))) ⌝ }
+    requires { ⌜ WithSums job (now sums) ⌝ }
+    ensures starving { λ r. ⌜ (r ≡ true
+        → Starves (treeIn job) (sumsIn (now (sums .entry))) (lastIn (now (sums .entry))) (length (now (lowers .entry)))) ⌝ }
+    ensures fed { λ r. ⌜ (r ≡ false
+        → AllFed (treeIn job) (sumsIn (now (sums .entry))) (lastIn (now (sums .entry))) (length (now (lowers .entry)))) ⌝ }
 {
     let mut rest = job.leaves();
     let mut found = false;
@@ -61,11 +61,12 @@ fn starves(job: Job, sums: &[u64], lowers: &mut [u64]) -> bool
     found
 }
 
-// One link: the least peak between its lower row and its part of the plan, which has its upper row; the lazy row at that peak takes its place.
+// One link: the least peak between its lower row and its part of the plan, which has its upper row; the lazy row at that peak takes
+// its place.
 fn fill_link(lowers: &[u64], row: &mut [u64]) -> u64
     requires { ⌜ Searchable (now lowers) (now row) ⌝ }
-    ensures { λ r. ⌜ r ≡ leastPeak (length (now (lowers .entry)) - 1) (familyIn (now (lowers .entry))) (familyIn (now (row .entry))) ⌝ }
-    ensures { λ r. ⌜ now (row .exit) ≡ tab (lazy (length (now (lowers .entry)) - 1) r (familyIn (now (lowers .entry)))) (length (now (lowers .entry))) ⌝ }
+    ensures least { λ r. ⌜ r ≡ leastPeakOf (now (lowers .entry)) (now (row .entry)) ⌝ }
+    ensures filled { λ r. ⌜ now (row .exit) ≡ lazyRow r (now (lowers .entry)) ⌝ }
 {
     let peak = rows::least_peak(lowers, row);
     rows::lazy_row(lowers, peak, row);
@@ -81,9 +82,13 @@ fn fill(
     plan: &mut [u64],
     peaks: &mut [u64],
 )
-    requires { ⌜ Ready job (now sums) (now lowers) (now kept) × ((now plan ≡ upperRows (treeIn job) (sumsIn (now sums)) (lastIn (now sums)) (length (now lowers)) (job .nodes - 1)) × (length (now peaks) ≡ job .nodes - 1)) ⌝ }
-    ensures { λ _. ⌜ now (plan .exit) ≡ lazyRowsOf (problemIn job (now (sums .entry)) (length (now (lowers .entry)))) (length (now (lowers .entry))) (job .nodes - 1) ⌝ }
-    ensures { λ _. ⌜ now (peaks .exit) ≡ peaksOf (problemIn job (now (sums .entry)) (length (now (lowers .entry)))) (job .nodes - 1) ⌝ }
+    requires { ⌜ Ready job (now sums) (now lowers) (now kept)
+        × ((now plan ≡ upperRows (treeIn job) (sumsIn (now sums)) (lastIn (now sums)) (length (now lowers)) (job .nodes - 1))
+        × (length (now peaks) ≡ job .nodes - 1)) ⌝ }
+    ensures filled { λ _. ⌜ now (plan .exit)
+        ≡ lazyRowsOf (problemIn job (now (sums .entry)) (length (now (lowers .entry)))) (length (now (lowers .entry))) (job .nodes - 1) ⌝ }
+    ensures peaks { λ _. ⌜ now (peaks .exit)
+        ≡ peaksOf (problemIn job (now (sums .entry)) (length (now (lowers .entry)))) (job .nodes - 1) ⌝ }
 {
     let links = job.nodes - 1;
     let width = lowers.len();
@@ -108,28 +113,25 @@ fn with_rows(
     plan: &mut [u64],
     peaks: &mut [u64],
 ) -> Answer
-    requires { ⌜ Ready job (now sums) (now lowers) (now kept) × ((length (now plan) ≡ (job .nodes - 1) * length (now lowers)) × (length (now peaks) ≡ job .nodes - 1)) ⌝ }
-    ensures { λ r. ⌜ Worked r job (now (sums .entry)) (length (now (lowers .entry))) (now (plan .entry)) (now (plan .exit)) (now (peaks .entry)) (now (peaks .exit)) ⌝ }
+    requires { ⌜ Ready job (now sums) (now lowers) (now kept) × OutputsFit job (length (now lowers)) (now plan) (now peaks) ⌝ }
+    ensures { λ r. ⌜ Worked r job (now (sums .entry)) (length (now (lowers .entry)))
+        (now (plan .entry)) (now (plan .exit)) (now (peaks .entry)) (now (peaks .exit)) ⌝ }
 {
     if starves(job, sums, lowers) {
-        return Answer::Refused(12);
+        return Answer::Refused(Answer::NO_PLAN);
     }
     let width = lowers.len();
+    let last = (width - 1) as u64;
+    let total = sums[sums.len() - 1];
     curves::upper_rows(job, sums, plan, width);
     fill(job, sums, lowers, kept, plan, peaks);
     let parent = job.parent;
     let memory = job.memory;
     rows::close_rows(plan, lowers, &parent, &memory, job.nodes, width);
-    Answer::Planned((width - 1) as u64, sums[sums.len() - 1])
+    Answer::Planned(last, total)
 }
 
-// The sums of the longest film, and a row with room for the most slots.
-fn sums_room() -> [u64; Job::MOST_FRAMES + 1]
-    ensures { λ r. ⌜ mostFrames + 1 ≡ length r ⌝ }
-{
-    [0u64; Job::MOST_FRAMES + 1]
-}
-
+// A row with room for the most slots.
 fn row_room() -> [u64; Job::MOST_SLOTS]
     ensures { λ r. ⌜ mostSlots ≡ length r ⌝ }
 {
@@ -138,8 +140,9 @@ fn row_room() -> [u64; Job::MOST_SLOTS]
 
 // The work on an accepted job, with its sums.
 fn with_sums(job: Job, sums: &[u64], plan: &mut [u64], peaks: &mut [u64]) -> Answer
-    requires { ⌜ TreeWithin (treeIn job) × ((job .frames ≤ mostFrames) × ((HoldsSums (now sums) × (length (now sums) ≤ mostFrames + 1)) × ((length (now plan) ≡ (job .nodes - 1) * widthOf job) × (length (now peaks) ≡ job .nodes - 1)))) ⌝ }
-    ensures { λ r. ⌜ Worked r job (now (sums .entry)) (widthOf job) (now (plan .entry)) (now (plan .exit)) (now (peaks .entry)) (now (peaks .exit)) ⌝ }
+    requires { ⌜ WithSums job (now sums) × OutputsFit job (widthOf job) (now plan) (now peaks) ⌝ }
+    ensures { λ r. ⌜ Worked r job (now (sums .entry)) (widthOf job)
+        (now (plan .entry)) (now (plan .exit)) (now (peaks .entry)) (now (peaks .exit)) ⌝ }
 {
     let width = job.last_slot() + 1;
     let mut lowers = row_room();
@@ -156,18 +159,19 @@ fn with_sums(job: Job, sums: &[u64], plan: &mut [u64], peaks: &mut [u64]) -> Ans
 
 // The work on an accepted job.
 fn with_job(bytes: &[u8], job: Job, plan: &mut [u64], peaks: &mut [u64]) -> Answer
-    requires { ⌜ Accepted (now bytes) job × ((length (now plan) ≡ (job .nodes - 1) * widthOf job) × (length (now peaks) ≡ job .nodes - 1)) ⌝ }
-    ensures { λ r. ⌜ Worked r job (tab (tree.T (jobOf (now (bytes .entry)))) (frameCount (now (bytes .entry)) + 1)) (widthOf job) (now (plan .entry)) (now (plan .exit)) (now (peaks .entry)) (now (peaks .exit)) ⌝ }
+    requires { ⌜ Accepted (now bytes) job × OutputsFit job (widthOf job) (now plan) (now peaks) ⌝ }
+    ensures { λ r. ⌜ Worked r job (sumsOf (now (bytes .entry))) (widthOf job)
+        (now (plan .entry)) (now (plan .exit)) (now (peaks .entry)) (now (peaks .exit)) ⌝ }
 {
-    let count = job.frames + 1;
-    let mut sums = sums_room();
-    job::sums(bytes, &mut sums[0..count]);
-    with_sums(job, &sums[0..count], plan, peaks)
+    let mut room = job::long_room();
+    let sums = job::sums(bytes, job, &mut room);
+    with_sums(job, sums, plan, peaks)
 }
 
 // The memory question.
 pub fn memory_question(bytes: &[u8], plan: &mut [u64], peaks: &mut [u64]) -> Answer
-    ensures { λ r. ⌜ Answers r (now (bytes .entry)) (now (plan .entry)) (now (plan .exit)) (now (peaks .entry)) (now (peaks .exit)) ⌝ }
+    ensures { λ r. ⌜ Answers r (now (bytes .entry))
+        (now (plan .entry)) (now (plan .exit)) (now (peaks .entry)) (now (peaks .exit)) ⌝ }
 {
     let read = job::read(bytes);
     if read.refusal != 0 {
@@ -175,10 +179,10 @@ pub fn memory_question(bytes: &[u8], plan: &mut [u64], peaks: &mut [u64]) -> Ans
     }
     let job = read.job;
     if plan.len() != job.plan_length() {
-        return Answer::Refused(11);
+        return Answer::Refused(Job::BAD_LENT);
     }
     if peaks.len() != job.nodes - 1 {
-        return Answer::Refused(11);
+        return Answer::Refused(Job::BAD_LENT);
     }
     with_job(bytes, job, plan, peaks)
 }

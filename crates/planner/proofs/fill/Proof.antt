@@ -1,6 +1,6 @@
 use mathlib.Core.Path.{_≡_, refl, ap, sym, _∙_}
-use mathlib.Core.List.{List, _++_}
-use Prim.Native.Nat.{ℕ, suc, _+_, _-_, _*_, _≤_, _<_}
+use mathlib.Core.List.{_++_}
+use Prim.Native.Nat.{suc, _+_, _-_, _*_, _≤_}
 use native.Mathlib.Numerals.{add-one}
 use native.Mathlib.Nat.{suc-mul}
 use lib.ListN.{length, take, drop}
@@ -11,18 +11,15 @@ use Rattle.base.proofs.PartLaws.{row-left}
 use Rattle.job.specs.Read.{treeIn}
 use Rattle.smoothing.specs.Tree.{Link}
 use Rattle.smoothing.specs.Plan.{linkPeak}
-use Rattle.curves.specs.Curves.{lowerCurve, upperCurve, sumsIn, lastIn}
-use Rattle.curves.specs.Rows.{upperRows, Kept}
+use Rattle.curves.specs.Curves.{upperCurve}
+use Rattle.job.specs.Sums.{sumsIn, lastIn}
+use Rattle.curves.specs.Rows.{Kept}
 use Rattle.planner.specs.Work.{problemIn, lazyRowOf, lazyRowsOf}
 use Rattle.planner.proofs.WorkLaws.{curves-searchable, peak-here, lazy-here}
 use borrow.Author.Needs.{needs}
 use native.Mathlib.Omega.{arith}
 use Rattle.planner.proofs.fill.Statement.{statement}
 use Rattle.planner.proofs.fill.Tie as tie
-use Rattle.planner.proofs.fill.Reads as reads
-use Rattle.planner.proofs.fill.Lts as lts
-use Rattle.curves.proofs.lower_near.Reads as lower-near-reads
-use Rattle.planner.proofs.fill_link.Reads as fill-link-reads
 
 abbrev Inv-loop : tie.InvT-loop
 Inv-loop job sums lowers₀ kept₀ plan₀ peaks₀ links width i₀ start₀ near₀ lowers kept plan peaks i start near =
@@ -39,11 +36,32 @@ abbrev μ-loop : tie.MeasureT-loop
 μ-loop job sums lowers₀ kept₀ plan₀ peaks₀ links width i₀ start₀ near₀ lowers kept plan peaks i start near = links - i
 
 sub-links : tie.Need-sub-links Inv-loop μ-loop
-sub-links c = omega (arith, c .before .before .before .before .before .before .pre .0 .tree .nodes-from)
+sub-links c = omega (arith, c .before .before .before .before .before .before .pre .0 .given .tree .nodes-from)
 
 loop-holds : tie.Need-loop-holds Inv-loop μ-loop
 unfolding tab rowsOf
-loop-holds c = (refl, (refl, (omega arith, (omega arith, (refl, (refl, ((omega arith, (refl, refl)), (omega (arith, c .before .before .before .before .before .before .pre .0 .tree .nodes-from), λ ne. absurd (ne refl)))))))))
+loop-holds c = (
+  refl,
+  (
+    refl,
+    (
+      omega arith,
+      (
+        omega arith,
+        (
+          refl,
+          (
+            refl,
+            (
+              (omega arith, (refl, refl)),
+              (omega (arith, c .before .before .before .before .before .before .pre .0 .given .tree .nodes-from), λ ne. absurd (ne refl)),
+            ),
+          ),
+        ),
+      ),
+    ),
+  ),
+)
 
 -- the plan is as long as its rows
 sized : (c : tie.In-loop Inv-loop μ-loop) → let a = c .before .before .before .before .before .before .before .before .args in length (a .plan .now) ≡ (a .job .nodes - 1) * length (a .lowers .now)
@@ -81,7 +99,7 @@ lower-near-requires c κs =
     let l = c .before .before .before .loop in
     let st = c .before .before .before .before .before .before .before .before .before .before in
     let r = st .pre .0 in
-    (r .tree, ((omega arith, omega arith), (r .film, (l .inv .1 .1 .1 .1 .1 .1 .1, l .inv .1 .0 ∙ r .same ∙ sym (l .inv .0)))))
+    (r .given, ((omega arith, omega arith), (l .inv .1 .1 .1 .1 .1 .1 .1, l .inv .1 .0 ∙ r .same ∙ sym (l .inv .0))))
 
 mul-fill-link : tie.Need-mul-fill-link Inv-loop μ-loop
 mul-fill-link c = omega (arith, row-in (c .before .before .before .before .before .before .before .before))

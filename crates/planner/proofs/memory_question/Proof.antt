@@ -7,7 +7,8 @@ use borrow.Author.Needs.{needs}
 use Rattle.planner.proofs.AnswerLaws.{early-read, early-plan, early-peaks, answered}
 use Rattle.planner.specs.Work.{widthOf}
 use Rattle.planner.specs.Answer.{Answers}
-use Rattle.job.proofs.RefusalLaws.{Accepted, read-accepts, refusedOr-number}
+use Rattle.job.proofs.RefusalLaws.{read-accepts, refusedOr-number}
+use Rattle.job.specs.Read.{Accepted}
 use Rattle.job.specs.declared.Reading.{Reading}
 use Rattle.job.specs.Refusal.{refusal}
 use Rattle.job.specs.Bytes.{frameAt, jobOf}
@@ -78,7 +79,7 @@ with-job-requires : tie.Need-with-job-requires
 with-job-requires c κs =
     let l = c .before .before in
     let e = l .before .before .before .before .before in
-    (accepted e, (l .before .before .if2 .left ∙ plan-is (l .before .before .before), l .if3 .left))
+    (accepted e, record { plan-long = l .before .before .if2 .left ∙ plan-is (l .before .before .before); peaks-long = l .if3 .left })
 
 same-length : tie.Need-same-length
 same-length c = search needs

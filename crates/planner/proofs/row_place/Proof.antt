@@ -6,12 +6,12 @@ use native.Mathlib.Omega.{arith}
 use borrow.Author.Needs.{needs}
 use Rattle.job.specs.Bytes.{frameAt, frameCount, treeOf, jobOf}
 use Rattle.job.specs.Limits.{mostFrames}
-use Rattle.job.specs.Read.{structOf, treeIn}
+use Rattle.job.specs.Read.{structOf, treeIn, Accepted}
 use Rattle.job.specs.Refusal.{refusal}
 use Rattle.job.specs.Tree.{Tree, TreeWithin, link, H, planLength}
 use Rattle.job.specs.declared.Job.{Job}
 use Rattle.job.specs.declared.Reading.{Reading}
-use Rattle.job.proofs.RefusalLaws.{refusedOr-number, Accepted, read-accepts}
+use Rattle.job.proofs.RefusalLaws.{refusedOr-number, read-accepts}
 use Rattle.job.proofs.TreeLaws.{link-is, link-past}
 use Rattle.planner.proofs.PlaceLaws.{refused-nowhere, no-link-nowhere, no-plan-nowhere, place-is, row-inside}
 use Rattle.planner.proofs.row_place.Statement.{statement}

@@ -1,7 +1,6 @@
 use mathlib.Core.Path.{_≡_, refl, ap, sym, _∙_}
 use mathlib.Core.Bool.{true, false}
 use mathlib.Core.List.{List}
-use mathlib.Core.Logic.{_≢_}
 use Prim.Native.Nat.{ℕ, _+_, _-_, _≤_, _<_}
 use lib.ListN.{length, getD}
 use borrow.Author.Count.{below-more}
@@ -15,22 +14,15 @@ use Rattle.job.specs.declared.Job.{Job}
 use Rattle.job.proofs.SlotLaws.{leaf-link}
 use Rattle.job.proofs.TreeLaws.{link-in, link-is}
 use Rattle.smoothing.specs.Tree.{Link}
-use Rattle.curves.specs.Curves.{lowerCurve, sumsIn, lastIn}
+use Rattle.curves.specs.Curves.{lowerCurve}
+use Rattle.job.specs.Sums.{sumsIn, lastIn}
 use Rattle.curves.specs.Rows.{Kept, leafLower}
-use Rattle.curves.proofs.SumsLaws.{film-of, sum-fits}
+use Rattle.job.proofs.SumsLaws.{film-of, sum-fits}
 use Rattle.planner.proofs.RoomLaws.{InRoom, in-room-by-row, starved-by-row, root-leaf-in-room, all-fed}
 use borrow.Author.Needs.{needs}
 use native.Mathlib.Omega.{arith}
 use Rattle.planner.proofs.starves.Statement.{statement}
 use Rattle.planner.proofs.starves.Tie as tie
-use Rattle.planner.proofs.starves.Reads as reads
-use Rattle.planner.proofs.starves.Lts as lts
-use Rattle.base.proofs.lowest.Reads as lowest-reads
-use Rattle.base.proofs.without_lowest.Reads as without-lowest-reads
-use Rattle.curves.proofs.keep_row.Reads as keep-row-reads
-use Rattle.curves.proofs.leaf_lower.Reads as leaf-lower-reads
-use Rattle.curves.proofs.played.Reads as played-reads
-use Rattle.job.proofs.Job.leaves.Reads as leaves-reads
 
 -- what the code takes at slot x for leaf i's lower curve, from the row of its parent u, and for its own room
 abbrev lowerOf : Job → List ℕ → List ℕ → ℕ → ℕ → ℕ → ℕ
@@ -63,15 +55,19 @@ leaf-here c =
     rw (c .lowest .ensures) (sym (leaves .ensures _) ∙ seen-in _ (leaves .result) (s .rest) (s .inv .1 .1 .1) (omega arith))
 
 link-here : (c : tie.After-lowest Inv-loop μ-loop Inv-search μ-search) → Link (c .before .before .before .before .before .before .args .t1 .nodes) (c .lowest .result)
-link-here c = link-in _ _ (leaf-link (treeIn (c .before .before .before .before .before .before .args .t1)) (c .before .before .before .before .before .before .pre .0) (c .lowest .result) (leaf-here c))
+link-here c =
+    link-in _ _ (leaf-link (treeIn (c .before .before .before .before .before .before .args .t1))
+    (c .before .before .before .before .before .before .pre .tree) (c .lowest .result) (leaf-here c))
 
 -- its parent has a lower number
 parent-here : (c : tie.After-lowest Inv-loop μ-loop Inv-search μ-search) → getD (c .before .before .before .before .before .before .args .t1 .parent) (c .lowest .result) 0 < c .lowest .result
-parent-here c = c .before .before .before .before .before .before .pre .0 .parents (c .lowest .result) (link-is (c .before .before .before .before .before .before .args .t1 .nodes) (c .lowest .result) (link-here c .0) (link-here c .1))
+parent-here c =
+    c .before .before .before .before .before .before .pre .tree .parents (c .lowest .result)
+    (link-is (c .before .before .before .before .before .before .args .t1 .nodes) (c .lowest .result) (link-here c .0) (link-here c .1))
 
 -- every node's number is small
 small : (c : tie.After-lowest Inv-loop μ-loop Inv-search μ-search) → c .lowest .result < 64
-small c = omega (arith, link-here c, c .before .before .before .before .before .before .pre .0 .nodes-to)
+small c = omega (arith, link-here c, c .before .before .before .before .before .before .pre .tree .nodes-to)
 
 -- the row has the lower curve of the leaf's parent
 row-is : (c : tie.After-keep-row Inv-loop μ-loop Inv-search μ-search) → let st = c .before .before .before .before .before .before .before .before .before .before .before in
@@ -83,10 +79,20 @@ row-long : (c : tie.After-keep-row Inv-loop μ-loop Inv-search μ-search) → le
 row-long c = ap length (row-is c) ∙ length-tab _ _
 
 leaves-requires : tie.Need-leaves-requires Inv-loop μ-loop Inv-search μ-search
-leaves-requires c κs = (c .before .before .pre .0 .nodes-from, c .before .before .pre .0 .nodes-to)
+leaves-requires c κs = (c .before .before .pre .tree .nodes-from, c .before .before .pre .tree .nodes-to)
 
 search-holds : tie.Need-search-holds Inv-loop μ-loop Inv-search μ-search
-search-holds c = (refl, (refl, ((omega (arith, c .before .before .before .pre .0 .nodes-from), λ ne. absurd (ne refl)), seen-start _ _ (omega arith))))
+search-holds c = (
+  refl,
+  (
+    refl,
+    (
+      (omega (arith, c .before .before .before .pre .tree .nodes-from), λ ne. absurd (ne refl)),
+      seen-start _ _
+          (omega arith),
+    ),
+  ),
+)
 
 lowest-requires : tie.Need-lowest-requires Inv-loop μ-loop Inv-search μ-search
 lowest-requires c κs = search needs
@@ -101,8 +107,13 @@ element-copy-out-u : tie.Need-element-copy-out-u Inv-loop μ-loop Inv-search μ-
 element-copy-out-u c = small (c .before)
 
 keep-row-requires : tie.Need-keep-row-requires Inv-loop μ-loop Inv-search μ-search
-keep-row-requires c κs =
-    (c .before .before .before .before .before .before .before .before .before .before .pre .0, ((omega arith, omega (arith, parent-here (c .before .before .before .before), link-here (c .before .before .before .before))), (c .before .before .before .before .before .before .before .before .before .before .pre .1, c .before .before .before .before .before .before .search .inv .1 .1 .0)))
+keep-row-requires c κs = (
+  c .before .before .before .before .before .before .before .before .before .before .pre,
+  (
+    (omega arith, omega (arith, parent-here (c .before .before .before .before), link-here (c .before .before .before .before))),
+    c .before .before .before .before .before .before .search .inv .1 .1 .0,
+  ),
+)
 
 loop-holds : tie.Need-loop-holds Inv-loop μ-loop Inv-search μ-search
 loop-holds c = (omega arith, (c .before .before .before .before .before .before .before .before .before .search .inv .1 .0, λ x h. absurd (omega arith)))
@@ -121,7 +132,9 @@ search-again c =
     let w = length (st .args .lowers .now) in
     let i = c .before .before .before .before .before .before .before .before .before .lowest .result in
     let here : InRoom t (sumsIn sums) w i =
-    in-room-by-row t (st .pre .0) (sumsIn sums) i w (leaf-here (c .before .before .before .before .before .before .before .before .before)) (omega (arith, c .before .before .before .before .before .before .if1 .taken)) _ (row-is r)
+    in-room-by-row t (st .pre .tree) (sumsIn sums) i w
+    (leaf-here (c .before .before .before .before .before .before .before .before .before))
+    (omega (arith, c .before .before .before .before .before .before .if1 .taken)) _ (row-is r)
     (λ k h. l .inv .1 .1 k (omega (arith, row-long r, c .loop-test .left))) in (
       row-long r,
       (
@@ -141,7 +154,9 @@ element-copy-out-played : tie.Need-element-copy-out-played Inv-loop μ-loop Inv-
 element-copy-out-played c = small (c .before .before .before .before .before .before .before .before .before)
 
 played-requires : tie.Need-played-requires Inv-loop μ-loop Inv-search μ-search
-played-requires c κs = c .before .before .before .before .before .before .before .before .before .before .before .before .before .before .before .before .pre .1 .some-sum
+played-requires c κs =
+    c .before .before .before .before .before .before .before .before .before .before .before .before .before .before .before
+    .before .pre .film .some-sum
 
 mul-leaf-lower : tie.Need-mul-leaf-lower Inv-loop μ-loop Inv-search μ-search
 mul-leaf-lower c = search needs
@@ -172,8 +187,9 @@ add-upper c =
     omega (
       arith,
       c .before .before .before .before .played .ensures,
-      sum-fits (st .args .sums .now) (st .pre .1) (c .before .before .before .before .before .before .before .loop .k - getD (st .args .t1 .delay) (d .lowest .result) 0),
-      st .pre .0 .memories (d .lowest .result) (link-is (st .args .t1 .nodes) (d .lowest .result) (link-here d .0) (link-here d .1)),
+      sum-fits (st .args .sums .now) (st .pre .film)
+          (c .before .before .before .before .before .before .before .loop .k - getD (st .args .t1 .delay) (d .lowest .result) 0),
+      st .pre .tree .memories (d .lowest .result) (link-is (st .args .t1 .nodes) (d .lowest .result) (link-here d .0) (link-here d .1)),
     )
 
 add-k : tie.Need-add-k Inv-loop μ-loop Inv-search μ-search
@@ -198,7 +214,8 @@ search-again-2 c =
     let t = treeIn (st .args .t1) in
     let T = sumsIn (st .args .sums .now) in
     let w = length (st .args .lowers .now) in
-    let here : InRoom t T w (c .before .before .before .lowest .result) = root-leaf-in-room t (st .pre .0) T (c .before .before .before .lowest .result) w (leaf-here (c .before .before .before)) (omega (arith, c .if1 .left)) in (
+    let here : InRoom t T w (c .before .before .before .lowest .result) = root-leaf-in-room t (st .pre .tree) T
+    (c .before .before .before .lowest .result) w (leaf-here (c .before .before .before)) (omega (arith, c .if1 .left)) in (
       s .inv .0,
       (
         s .inv .1 .0,
@@ -221,7 +238,7 @@ returns c =
     let sums = st .args .sums .now in
     let w = length (st .args .lowers .now) in (
       λ q. absurd (not-both q (s .inv .1 .0)),
-      λ q. all-fed t (st .pre .0) (sumsIn sums) (lastIn sums) (film-of sums (st .pre .1)) w
+      λ q. all-fed t (st .pre .tree) (sumsIn sums) (lastIn sums) (film-of sums (st .pre .film)) w
           (λ i e. seen-all (InRoom t (sumsIn sums) w) (c .before .before .leaves .result) (rw (c .search-test .left) at (s .inv .1 .1 .1)) i (c .before .before .leaves .ensures i ∙ e)),
     )
 
@@ -234,7 +251,15 @@ returns-2 c =
     let r = c .before .before .before .before .before .before .before .before .before .before .before in
     let sums = st .args .sums .now in
     let lower = rw (c .before .before .before .before .before .played .ensures) at (c .before .before .leaf-lower .ensures) in (
-      λ q. starved-by-row (treeIn (st .args .t1)) (st .pre .0) (sumsIn sums) (c .before .before .before .before .before .before .before .before .before .before .before .before .before .before .before .before .lowest .result) (length (st .args .lowers .now)) (leaf-here (c .before .before .before .before .before .before .before .before .before .before .before .before .before .before .before .before)) (omega (arith, c .before .before .before .before .before .before .before .before .before .before .before .before .before .if1 .taken)) _ (row-is r)
+      λ q. starved-by-row (treeIn (st .args .t1)) (st .pre .tree) (sumsIn sums)
+          (c .before .before .before .before .before .before .before .before .before .before .before .before .before .before
+          .before .before .lowest .result) (length (st .args .lowers .now)) (leaf-here (c .before .before .before .before
+          .before .before .before .before .before .before .before .before .before .before .before .before)) (omega (
+            arith,
+            c
+                .before .before .before .before .before .before .before .before .before .before .before .before
+                .before .if1 .taken,
+          )) _ (row-is r)
           (lastIn sums) (c .before .before .before .before .before .before .before .before .loop .k) (omega (arith, c .before .before .before .before .before .before .before .loop-test .taken, row-long r)) (omega (arith, c .if2 .taken, lower, c .before .before .before .before .before .played .ensures)),
       λ q. absurd (not-both refl q),
     )

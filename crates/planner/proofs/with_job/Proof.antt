@@ -1,77 +1,21 @@
-use mathlib.Core.Path.{_≡_, ap, sym, _∙_}
-use mathlib.Core.List.{List, _++_}
-use Prim.Native.Nat.{ℕ, _+_, _-_}
-use native.Mathlib.Omega.{arith}
-use lib.Seq.{take-at}
-use lib.ListN.{length, take, length-append}
+use Rattle.job.proofs.SumsLaws.{with-sums}
 use borrow.Author.Needs.{needs}
-use Rattle.base.proofs.TableLaws.{length-tab}
-use Rattle.base.specs.Table.{tab}
-use Rattle.curves.proofs.SumsLaws.{job-sums}
-use Rattle.job.specs.Bytes.{frameCount, jobOf}
-use Rattle.job.specs.Tree.{T}
 use Rattle.planner.proofs.with_job.Statement.{statement}
 use Rattle.planner.proofs.with_job.Tie as tie
 
--- as many sums as frames and one
-filled : (c : tie.After-sums2) → length (c .sums2 .last .1 .0) ≡ c .before .before .before .before .before .before .before .args .job .frames + 1
-filled c =
-    let st = c .before .before .before .before .before .before .before in
-    ap length (c .sums2 .ensures) ∙ length-tab (T (jobOf (st .args .bytes .now))) _ ∙ ap (λ (n : ℕ). n + 1) (sym (st .pre .0 .frames))
+long-room-requires : tie.Need-long-room-requires
+long-room-requires c κs = search needs
 
--- the part that is lent on holds T(0) to T(M)
-sums-part : (c : tie.After-sums2) (room : List ℕ)
-    → take (c .before .before .before .before .before .before .before .args .job .frames + 1 - 0) (c .sums2 .last .1 .0 ++ room) ≡ tab (T (jobOf (c .before .before .before .before .before .before .before .args .bytes .now))) (frameCount (c .before .before .before .before .before .before .before .args .bytes .now) + 1)
-sums-part c room =
-    let e : c .before .before .before .before .before .before .before .args .job .frames + 1 - 0 ≡ c .before .before .before .before .before .before .before .args .job .frames + 1 = omega arith in
-    rw e (take-at (c .sums2 .last .1 .0) room (c .before .before .before .before .before .before .before .args .job .frames + 1) (filled c)) ∙ c .sums2 .ensures
-
-add-count : tie.Need-add-count
-add-count c = search needs
-
-sums-room-requires : tie.Need-sums-room-requires
-sums-room-requires c κs = search needs
-
-sub-sums : tie.Need-sub-sums
-sub-sums c = search needs
-
-part-sums-start : tie.Need-part-sums-start
-part-sums-start c = search needs
-
-part-sums-end : tie.Need-part-sums-end
-part-sums-end c = search needs
+slice-aggregate-sums : tie.Need-slice-aggregate-sums
+slice-aggregate-sums c = search needs
 
 sums-requires : tie.Need-sums-requires
 sums-requires c κs = search needs
 
-sub-with-sums : tie.Need-sub-with-sums
-sub-with-sums c = search needs
-
-part-with-sums-start : tie.Need-part-with-sums-start
-part-with-sums-start c = search needs
-
-part-with-sums-end : tie.Need-part-with-sums-end
-part-with-sums-end c =
-    let st = c .before .before .before .before .before .before .before .before .before in
-    simp length-append (omega (arith, filled (c .before .before), c .before .before .before .before .sums-room .ensures))
-
 with-sums-requires : tie.Need-with-sums-requires
 with-sums-requires c κs =
-    let st = c .before .before .before .before .before .before .before .before .before .before .before .before in
-    let acc = st .pre .0 in
-    let s = st .args .bytes .now in (
-      acc .tree-within,
-      (
-        omega (arith, acc .frames, acc .within .frames-to),
-        (
-          (
-            rw (sums-part (c .before .before .before .before .before)) (job-sums (jobOf s) (acc .within)),
-            rw (sums-part (c .before .before .before .before .before), length-tab) (omega (arith, acc .within .frames-to)),
-          ),
-          (st .pre .1 .0, st .pre .1 .1),
-        ),
-      ),
-    )
+    let st = c .before .before .before .before .before .before .before .before .before in
+    (rw (c .before .before .before .sums .ensures) (with-sums (st .args .bytes .now) (st .args .job) (st .pre .0)), st .pre .1)
 
 same-length : tie.Need-same-length
 same-length c = search needs
@@ -80,21 +24,17 @@ same-length-2 : tie.Need-same-length-2
 same-length-2 c = search needs
 
 returns : tie.Need-returns
-returns c = rw (sums-part (c .before .before .before .before .before .before .before .before .before .before)) at (c .before .before .before .before .with-sums .ensures)
+returns c =
+    let w = c .before .before .before .before .before in
+    rw (w .before .before .before .before .sums .ensures) at (w .with-sums .ensures)
 
 pub with-job-spec : {M : Type 1} → statement M
 with-job-spec =
     tie.close
     (tie.spec
-    add-count
-    sums-room-requires
-    sub-sums
-    part-sums-start
-    part-sums-end
+    long-room-requires
+    slice-aggregate-sums
     sums-requires
-    sub-with-sums
-    part-with-sums-start
-    part-with-sums-end
     with-sums-requires
     same-length
     same-length-2

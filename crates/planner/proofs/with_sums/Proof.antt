@@ -18,7 +18,7 @@ unfolding H
 width-is c = ap (λ (n : ℕ). n + 1) (c .last-slot .ensures (λ m. 0))
 
 width-fits : (c : tie.After-last-slot) → widthOf (c .before .before .before .before .args .job) ≤ mostSlots
-width-fits c = let st = c .before .before .before .before in omega (arith, greatestDelay-le (treeIn (st .args .job)) (st .pre .0), st .pre .1 .0)
+width-fits c = let st = c .before .before .before .before in omega (arith, greatestDelay-le (treeIn (st .args .job)) (st .pre .0 .tree), st .pre .0 .frames-to)
 
 -- a row's room cut to the width
 cut : (c : tie.After-last-slot) (room : List ℕ) → mostSlots ≡ length room → length (take (c .last-slot .result + 1 - 0) room) ≡ widthOf (c .before .before .before .before .args .job)
@@ -63,14 +63,16 @@ with-rows-requires c κs =
     let lowers = cut a (c .before .before .before .before .before .row-room .result) (c .before .before .before .before .before .row-room .ensures) in
     let kept = cut a (c .before .before .before .before .row-room2 .result) (c .before .before .before .before .row-room2 .ensures) in (
       record {
-        tree = st .pre .0;
-        film = st .pre .1 .1 .0 .0;
-        sums-to = st .pre .1 .1 .0 .1;
+        given = st .pre .0;
         wide = omega (arith, lowers);
         slots-to = omega (arith, lowers, width-fits a);
         same = kept ∙ sym lowers;
       },
-      (st .pre .1 .1 .1 .0 ∙ ap (λ (n : ℕ). (st .args .job .nodes - 1) * n) (sym lowers), st .pre .1 .1 .1 .1),
+      record {
+        plan-long =
+            st .pre .1 .plan-long ∙ ap (λ (n : ℕ). (st .args .job .nodes - 1) * n) (sym lowers);
+        peaks-long = st .pre .1 .peaks-long;
+      },
     )
 
 same-length : tie.Need-same-length

@@ -27,15 +27,15 @@ put : putBack (small 0 3 4 6) 258 (memoriesIn (7 ∷ 9 ∷ [])) ≡ small 1 2 7 
 unfolding small written recordPut putBack number some fold link child hasChild leaf nodeCount parentAt delayAt memoryAt rateAt perNode
 put = refl
 
--- none; 11 before 8, 8 before 9, 9; and a refusal of the job before all
+-- none; 8 before 9 and 11, 9 before 11 also past the last node, 11; and a refusal of the job before all
 refusals :
     (putBackRefusal (small 0 3 4 6) 4096 (7 ∷ (2 ^ 40 - 1) ∷ [])
-    ∷ putBackRefusal (small 0 3 4 6) 4097 (7 ∷ [])
-    ∷ putBackRefusal (small 0 3 4 6) 4097 (7 ∷ 2 ^ 40 ∷ [])
-    ∷ putBackRefusal (small 0 3 4 6) 4096 (7 ∷ 2 ^ 40 ∷ [])
-    ∷ putBackRefusal (small 17 3 4 6) 4097 (7 ∷ [])
-    ∷ putBackRefusal [] 4097 (7 ∷ [])
+    ∷ putBackRefusal (small 0 3 4 6) 4097 (2 ^ 40 ∷ [])
+    ∷ putBackRefusal (small 0 3 4 6) 4096 (7 ∷ 9 ∷ 2 ^ 40 ∷ [])
+    ∷ putBackRefusal (small 0 3 4 6) 4096 (7 ∷ [])
+    ∷ putBackRefusal (small 17 3 4 6) 4096 (2 ^ 40 ∷ [])
+    ∷ putBackRefusal [] 4097 (2 ^ 40 ∷ [])
     ∷ [])
-    ≡ (0 ∷ 11 ∷ 8 ∷ 9 ∷ 8 ∷ 1 ∷ [])
+    ≡ (0 ∷ 8 ∷ 9 ∷ 11 ∷ 8 ∷ 1 ∷ [])
 unfolding small putBackRefusal refusal number some link child hasChild leaf mark version nodeCount frameCount parentAt delayAt memoryAt rateAt frameAt wantedLength perNode
 refusals = refl

@@ -1,16 +1,11 @@
 // Writing into job bytes: an answer of the rate question put back into its job. Definitions to believe: specs/PutBack.
 ghost use mathlib.Core.Bool.{cond};
 ghost use mathlib.Core.Path.{_≡_};
-ghost use Prim.Native.Nat.{ℕ, _+_, _-_, _%_, _≤_, _<_};
-ghost use lib.Dec.{eqb, ltb};
+ghost use Prim.Native.Nat.{_+_, _%_, _≤_, _<_};
 ghost use lib.ListN.{length};
-ghost use Rattle.base.specs.Set.{has};
-ghost use Rattle.job.specs.Limits.{mostNodes, greatestMemory};
-ghost use Rattle.job.specs.Tree.{leaf};
-ghost use Rattle.job.specs.Bytes.{recordPlace, recordWidth, nodeCount, treeOf, jobOf};
-ghost use Rattle.job.specs.Refusal.{refusal, someNode};
-ghost use Rattle.job.specs.Read.{bareTree};
-ghost use Rattle.writing.specs.PutBack.{written, putBack, answeredJob, memoriesIn, putBackRefusal};
+ghost use Rattle.job.specs.Limits.{mostNodes};
+ghost use Rattle.job.specs.Bytes.{recordPlace, recordWidth};
+ghost use Rattle.writing.specs.PutBack.{written, recordWith, putBack, memoriesIn, someMemoryWrong, Puttable, Puts};
 use job::Job;
 use job::Node;
 
@@ -48,7 +43,7 @@ fn put_delay(s: &mut [u8], place: usize, leaf: bool, w: u64)
 // What the answer changes in the record of node i.
 fn put_record(s: &mut [u8], i: usize, leaf: bool, w: u64, memory: u64)
     requires { ⌜ (0 < i) × ((i ≤ mostNodes) × (recordPlace i + recordWidth ≤ length (now s))) ⌝ }
-    ensures { λ _. ⌜ now (s .exit) ≡ written (cond leaf (written (now (s .entry)) (recordPlace i + 1) 2 w) (now (s .entry))) (recordPlace i + 3) 8 memory ⌝ }
+    ensures { λ _. ⌜ now (s .exit) ≡ recordWith (now (s .entry)) i leaf w memory ⌝ }
 {
     let at = Job::HEADER + Node::WIDTH * (i - 1);
     put_delay(s, at + 1, leaf, w);
@@ -57,7 +52,7 @@ fn put_record(s: &mut [u8], i: usize, leaf: bool, w: u64, memory: u64)
 
 // The answer in every record. Which nodes are leaves is known before anything is written.
 fn put_records(s: &mut [u8], nodes: usize, leaves: u64, w: u64, memories: &[u64])
-    requires { ⌜ (refusal (now s) ≡ 0) × ((nodes ≡ nodeCount (now s)) × (((k : ℕ) → has leaves k ≡ leaf (treeOf (now s)) k) × (length (now memories) ≡ nodes - 1))) ⌝ }
+    requires { ⌜ Puttable (now s) nodes leaves (now memories) ⌝ }
     ensures { λ _. ⌜ now (s .exit) ≡ putBack (now (s .entry)) w (memoriesIn (now (memories .entry))) ⌝ }
 {
     let mut i = 1;
@@ -67,26 +62,24 @@ fn put_records(s: &mut [u8], nodes: usize, leaves: u64, w: u64, memories: &[u64]
     }
 }
 
-// Whether the memory of some node 1 to n-1 is too large.
-fn some_memory_wrong(memories: &[u64], nodes: usize) -> bool
-    requires { ⌜ (0 < nodes) × (length (now memories) ≡ nodes - 1) ⌝ }
-    ensures { λ r. ⌜ r ≡ someNode (bareTree nodes) (λ i. ltb greatestMemory (memoriesIn (now (memories .entry)) i)) ⌝ }
+// Whether some number of a list is too large a memory.
+fn some_memory_wrong(memories: &[u64]) -> bool
+    ensures { λ r. ⌜ r ≡ someMemoryWrong (now (memories .entry)) ⌝ }
 {
-    let mut i = 1;
-    while i < nodes {
-        if Node::GREATEST_MEMORY < memories[i - 1] {
+    let mut k = 0;
+    while k < memories.len() {
+        if Node::GREATEST_MEMORY < memories[k] {
             return true;
         }
-        i += 1;
+        k += 1;
     }
     false
 }
 
-// The answer w and memories, for nodes 1 to n-1 in their order, put back into a job's bytes; or its refusal, and the bytes stay as they are.
+// The answer w and memories, for nodes 1 to n-1 in their order, put back into a job's bytes; or its refusal, and the bytes stay as they
+// are.
 pub fn put_back(bytes: &mut [u8], w: u64, memories: &[u64]) -> u64
-    ensures { λ r. ⌜ r ≡ putBackRefusal (now (bytes .entry)) w (now (memories .entry)) ⌝ }
-    ensures { λ r. ⌜ now (bytes .exit) ≡ cond (eqb r 0) (putBack (now (bytes .entry)) w (memoriesIn (now (memories .entry)))) (now (bytes .entry)) ⌝ }
-    ensures { λ r. ⌜ (r ≡ 0 → (refusal (now (bytes .exit)) ≡ 0) × (jobOf (now (bytes .exit)) ≡ answeredJob (jobOf (now (bytes .entry))) w (memoriesIn (now (memories .entry))))) ⌝ }
+    ensures { λ r. ⌜ Puts (now (bytes .entry)) w (now (memories .entry)) r (now (bytes .exit)) ⌝ }
 {
     let read = job::read(bytes);
     if read.refusal != 0 {
@@ -94,14 +87,14 @@ pub fn put_back(bytes: &mut [u8], w: u64, memories: &[u64]) -> u64
     }
     let job = read.job;
     let nodes = job.nodes;
-    if memories.len() != nodes - 1 {
-        return 11;
-    }
     if (Node::LONGEST_DELAY as u64) < w {
-        return 8;
+        return Node::BAD_DELAY;
     }
-    if some_memory_wrong(memories, nodes) {
-        return 9;
+    if some_memory_wrong(memories) {
+        return Node::LARGE_MEMORY;
+    }
+    if memories.len() != nodes - 1 {
+        return Job::BAD_LENT;
     }
     put_records(bytes, nodes, job.leaves(), w, memories);
     0

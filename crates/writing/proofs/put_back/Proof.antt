@@ -6,8 +6,9 @@ use borrow.Author.Needs.{needs}
 use Rattle.job.specs.Bytes.{nodeCount}
 use Rattle.job.specs.Tree.{Tree, leaf}
 use Rattle.job.specs.declared.Reading.{Reading}
-use Rattle.job.proofs.RefusalLaws.{Accepted, read-accepts, refusedOr-number}
-use Rattle.writing.proofs.PutLaws.{memoryWrong, put-job, put-length, put-delay, put-memory, put-done}
+use Rattle.job.proofs.RefusalLaws.{read-accepts, refusedOr-number}
+use Rattle.job.specs.Read.{Accepted}
+use Rattle.writing.proofs.PutLaws.{put-job, put-length, put-delay, put-memory, put-done}
 use Rattle.writing.proofs.put_back.Statement.{statement}
 use Rattle.writing.proofs.put_back.Tie as tie
 
@@ -17,16 +18,6 @@ accepted c = read-accepts _ (c .before .before .read .result) (c .before .before
 
 nodes-are : (c : tie.Else1) → c .before .before .read .result .job .nodes ≡ nodeCount (c .before .before .before .before .before .before .args .bytes .now)
 nodes-are c = ap (λ (t : Tree). t .n) (accepted c .held)
-
--- past the second there is a memory for each node
-long : (c : tie.Else2) → let st = c .before .before .before .before .before .before .before .before in
-    length (st .args .memories .now) ≡ nodeCount (st .args .bytes .now) - 1
-long c = c .if2 .left ∙ ap (λ (n : ℕ). n - 1) (nodes-are (c .before .before))
-
--- the test of the memories, at the count that the bytes have
-wrong-is : (c : tie.After-some-memory-wrong) → let st = c .before .before .before .before .before .before .before .before .before .before in
-    c .some-memory-wrong .result ≡ memoryWrong (st .args .bytes .now) (st .args .w) (st .args .memories .now) (nodeCount (st .args .bytes .now))
-wrong-is c = c .some-memory-wrong .ensures ∙ rw (nodes-are (c .before .before .before .before)) refl
 
 read-requires : tie.Need-read-requires
 read-requires c κs = search needs
@@ -41,9 +32,6 @@ returns c =
     put-job (st .args .bytes .now) (st .args .w) (st .args .memories .now) (r .result .refusal)
     (ap (λ (x : Reading). x .refusal) (r .ensures) ∙ refusedOr-number _ _) (c .if1 .taken)
 
-sub-if2 : tie.Need-sub-if2
-sub-if2 c = omega (arith, accepted (c .before) .tree-within .nodes-from)
-
 same-length-2 : tie.Need-same-length-2
 same-length-2 c = search needs
 
@@ -51,42 +39,51 @@ returns-2 : tie.Need-returns-2
 returns-2 c =
     let a = c .before .before in
     let st = a .before .before .before .before .before .before in
-    put-length (st .args .bytes .now) (st .args .w) (st .args .memories .now) (accepted a .none)
-    (λ z. c .if2 .taken (z ∙ ap (λ (n : ℕ). n - 1) (sym (nodes-are a))))
+    put-delay (st .args .bytes .now) (st .args .w) (st .args .memories .now) (accepted a .none) (omega (arith, c .if2 .taken))
+
+some-memory-wrong-requires : tie.Need-some-memory-wrong-requires
+some-memory-wrong-requires c κs = search needs
 
 same-length-3 : tie.Need-same-length-3
 same-length-3 c = search needs
 
 returns-3 : tie.Need-returns-3
 returns-3 c =
-    let a = c .before .before .before in
+    let b = c .before .before in
+    let a = b .before .before in
     let st = a .before .before .before .before .before .before in
-    put-delay (st .args .bytes .now) (st .args .w) (st .args .memories .now) (accepted a .none) (long (c .before)) (omega (arith, c .if3 .taken))
+    put-memory (st .args .bytes .now) (st .args .w) (st .args .memories .now) (accepted a .none) (omega (arith, b .if2 .left))
+    (sym (c .before .some-memory-wrong .ensures) ∙ c .if3 .taken)
 
-some-memory-wrong-requires : tie.Need-some-memory-wrong-requires
-some-memory-wrong-requires c κs = (omega (arith, accepted (c .before .before .before) .tree-within .nodes-from), c .before .if2 .left)
+sub-if4 : tie.Need-sub-if4
+sub-if4 c = omega (arith, accepted (c .before .before .before .before) .tree-within .nodes-from)
 
 same-length-4 : tie.Need-same-length-4
 same-length-4 c = search needs
 
 returns-4 : tie.Need-returns-4
 returns-4 c =
-    let b = c .before .before .before in
+    let d = c .before in
+    let b = d .before .before in
     let a = b .before .before in
     let st = a .before .before .before .before .before .before in
-    put-memory (st .args .bytes .now) (st .args .w) (st .args .memories .now) (accepted a .none) (long b) (omega (arith, c .before .before .if3 .left))
-    (sym (wrong-is (c .before)) ∙ c .if4 .taken)
+    put-length (st .args .bytes .now) (st .args .w) (st .args .memories .now) (accepted a .none) (omega (arith, b .if2 .left))
+    (sym (d .before .some-memory-wrong .ensures) ∙ d .if3 .left) (λ z. c .if4 .taken (z ∙ ap (λ (n : ℕ). n - 1) (sym (nodes-are a))))
 
 leaves-requires : tie.Need-leaves-requires
 leaves-requires c κs = let w = accepted (c .before .before .before .before .before .before) .tree-within in (w .nodes-from, w .nodes-to)
 
 put-records-requires : tie.Need-put-records-requires
 put-records-requires c κs =
-    let b = c .before .before .before .before .before in
-    let h = accepted (b .before .before) in (
-      h .none,
-      (nodes-are (b .before .before), (λ k. c .leaves .ensures k ∙ ap (λ (t : Tree). leaf t k) (h .held), b .if2 .left)),
-    )
+    let e = c .before .before in
+    let a = e .before .before .before .before .before in
+    let h = accepted a in
+    record {
+      none = h .none;
+      count = nodes-are a;
+      leaf-set = λ k. c .leaves .ensures k ∙ ap (λ (t : Tree). leaf t k) (h .held);
+      long = e .if4 .left;
+    }
 
 same-length-5 : tie.Need-same-length-5
 same-length-5 c = search needs
@@ -94,12 +91,13 @@ same-length-5 c = search needs
 returns-5 : tie.Need-returns-5
 returns-5 c =
     let p = c .before .before in
-    let f = p .before .before .before in
-    let b = f .before .before .before in
+    let e = p .before .before .before in
+    let d = e .before in
+    let b = d .before .before in
     let a = b .before .before in
     let st = a .before .before .before .before .before .before in
-    put-done (st .args .bytes .now) (st .args .w) (st .args .memories .now) (accepted a .none) (long b) (omega (arith, f .before .before .if3 .left))
-    (sym (wrong-is (f .before)) ∙ f .if4 .left) _ (p .put-records .ensures)
+    put-done (st .args .bytes .now) (st .args .w) (st .args .memories .now) (accepted a .none) (omega (arith, b .if2 .left))
+    (sym (d .before .some-memory-wrong .ensures) ∙ d .if3 .left) (e .if4 .left ∙ ap (λ (n : ℕ). n - 1) (nodes-are a)) _ (p .put-records .ensures)
 
 pub put-back-spec : {M : Type 1} → statement M
 put-back-spec =
@@ -108,12 +106,12 @@ put-back-spec =
     read-requires
     same-length
     returns
-    sub-if2
     same-length-2
     returns-2
+    some-memory-wrong-requires
     same-length-3
     returns-3
-    some-memory-wrong-requires
+    sub-if4
     same-length-4
     returns-4
     leaves-requires

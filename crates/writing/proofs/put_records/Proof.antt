@@ -22,7 +22,7 @@ loop-holds : tie.Need-loop-holds Inv-loop μ-loop
 loop-holds c =
     let st = c .before .before in
     let s = st .args .s .now in
-    let sized = accepted-sized s (st .pre .0) in (
+    let sized = accepted-sized s (st .pre .none) in (
       omega arith,
       (
         omega (arith, sized .nodes-from),
@@ -47,13 +47,13 @@ put-record-requires c κs =
     let l = c .before .before .before .before .loop in
     let st = c .before .before .before .before .before .before .before in
     let s = st .args .s .now in
-    let sized = accepted-sized s (st .pre .0) in
+    let sized = accepted-sized s (st .pre .none) in
     let long : length (l .s) ≡ length s =
     ap (λ (x : List ℕ). length x) (l .inv .1 .1) ∙ length-records (treeOf s) (st .args .w) (memoriesIn (st .args .memories .now)) s (st .args .nodes) (l .i) in (
       l .inv .0,
       (
-        omega (arith, sized .nodes-to, st .pre .1 .0),
-        omega (arith, long, record-in s sized (l .i) (l .inv .0) (omega (arith, st .pre .1 .0))),
+        omega (arith, sized .nodes-to, st .pre .count),
+        omega (arith, long, record-in s sized (l .i) (l .inv .0) (omega (arith, st .pre .count))),
       ),
     )
 
@@ -78,7 +78,7 @@ loop-again c =
             (l .inv .0)
             (omega arith)
             (l .inv .1 .1)
-            (m .ensures ∙ st .pre .1 .1 .0 (l .i)),
+            (m .ensures ∙ st .pre .leaf-set (l .i)),
       ),
     )
 
@@ -95,8 +95,8 @@ returns c =
     let l = c .before .loop in
     let st = c .before .before .before .before in
     let s = st .args .s .now in
-    let q : l .i ≡ nodeCount s = omega (arith, st .pre .1 .0) in
-    l .inv .1 .1 ∙ rw (st .pre .1 .0, q) refl
+    let q : l .i ≡ nodeCount s = omega (arith, st .pre .count) in
+    l .inv .1 .1 ∙ rw (st .pre .count, q) refl
 
 pub put-records-spec : {M : Type 1} → statement M
 put-records-spec =

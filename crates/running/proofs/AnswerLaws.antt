@@ -17,15 +17,14 @@ use Rattle.job.specs.Limits.{mostNodes}
 use Rattle.job.specs.Tree.{Tree, JobData, TreeWithin, link, child, leaf, T, H, planLength}
 use Rattle.job.specs.Bytes.{frameCount, jobOf}
 use Rattle.job.specs.Refusal.{refusal}
-use Rattle.job.specs.Read.{treeIn}
+use Rattle.job.specs.Read.{treeIn, Accepted}
 use Rattle.job.specs.declared.Job.{Job}
-use Rattle.job.proofs.RefusalLaws.{Accepted}
 use Rattle.job.proofs.SlotLaws.{leaf-link}
 use Rattle.job.proofs.TreeLaws.{link-in, child-in}
 use Rattle.smoothing.specs.Tree.{Link}
 use Rattle.smoothing.specs.Lists.{familyIn, rowsIn}
-use Rattle.curves.specs.Curves.{sumsIn, lastIn}
-use Rattle.curves.proofs.SumsLaws.{sums-of, last-of}
+use Rattle.job.specs.Sums.{sumsIn, lastIn}
+use Rattle.job.proofs.SumsLaws.{sums-of, last-of}
 use Rattle.curves.proofs.LowerLaws.{parent-lower}
 use Rattle.planner.specs.Rules.{P1, P2, P3, ColumnKeeps}
 use Rattle.planner.specs.Work.{widthOf}

@@ -16,7 +16,7 @@ use Rattle.job.specs.Bytes.{jobOf}
 use Rattle.job.specs.Refusal.{refusal}
 use Rattle.job.proofs.RefusalLaws.{accepted-within}
 use Rattle.job.proofs.TreeLaws.{link-in}
-use Rattle.curves.proofs.SumsLaws.{job-film}
+use Rattle.job.proofs.SumsLaws.{job-film}
 use Rattle.curves.proofs.CurveEq.{D-starts}
 use Rattle.planner.specs.Rules.{P1, P2, P3, ColumnKeeps, Keeps}
 use Rattle.planner.specs.Answer.{planIn, Answers}

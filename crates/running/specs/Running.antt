@@ -11,7 +11,7 @@ use Rattle.base.specs.Table.{tab}
 use Rattle.job.specs.Limits.{mostNodes}
 use Rattle.job.specs.Tree.{JobData, link, child, leaf, T, H, planLength}
 use Rattle.job.specs.Bytes.{jobOf}
-use Rattle.job.specs.Refusal.{refusal}
+use Rattle.job.specs.Refusal.{badLent, refusal}
 use Rattle.curves.specs.Curves.{D}
 use Rattle.planner.specs.Rules.{P1, P2, P3, ColumnKeeps}
 use Rattle.planner.specs.Answer.{planIn}
@@ -21,10 +21,18 @@ use Rattle.running.specs.declared.Outcome.the-variants.{Taken, Done, Ref
 
 -- ---- the numbers of an outcome
 
--- document 01's number of each outcome; it gives done none, so 100 stands for it
+-- the column breaks a rule
+abbrev pub brokenRule : ℕ
+brokenRule = 14
+
+-- document 01 gives done no number, so this one stands for it
+abbrev pub done : ℕ
+done = 100
+
+-- document 01's number of each outcome
 abbrev pub numberOf : Outcome → ℕ
 numberOf Taken = 0
-numberOf Done = 100
+numberOf Done = done
 numberOf (Refused e l) = e
 
 -- the link that 14 names; 0 elsewhere
@@ -63,7 +71,7 @@ unfoldable pub stepRefusal : List ℕ → ℕ → ℕ → ℕ → ℕ
 stepRefusal s planned sent held =
     let j = jobOf s in
     cond (eqb (refusal s) 0)
-    (cond (eqb planned (planLength j) && (eqb sent (j .tree .n - 1) && eqb held (j .tree .n - 1))) 0 11)
+    (cond (eqb planned (planLength j) && (eqb sent (j .tree .n - 1) && eqb held (j .tree .n - 1))) 0 badLent)
     (refusal s)
 
 -- the carried bytes after a column: places without a link keep theirs
@@ -95,7 +103,7 @@ Stepped (Refused e l) s plan x y sent₀ sent₁ held₀ held₁ =
     × ((sent₁ ≡ sent₀)
     × ((held₁ ≡ held₀)
     × (((e ≡ early) × ((early ≡ 0 → ⊥) × (l ≡ 0)))
-    ⊎ ((early ≡ 0) × ((x .slot < H j) × ((e ≡ 14) × Breaks j (suc (x .slot)) (carriedIn x) (column j plan (suc (x .slot))) l))))))
+    ⊎ ((early ≡ 0) × ((x .slot < H j) × ((e ≡ brokenRule) × Breaks j (suc (x .slot)) (carriedIn x) (column j plan (suc (x .slot))) l))))))
 
 -- ---- runs
 

@@ -8,15 +8,11 @@ ghost use lib.ListN.{length, getD};
 ghost use Rattle.base.specs.Range.{fold};
 ghost use Rattle.base.specs.Set.{has, wordBits};
 ghost use Rattle.base.specs.Table.{tab};
-ghost use Rattle.job.specs.Limits.{mostNodes, mostFrames, mostSlots};
-ghost use Rattle.job.specs.Tree.{TreeWithin, leaf, link};
-ghost use Rattle.job.specs.Tree as tree;
-ghost use Rattle.job.specs.Read.{treeIn};
-ghost use Rattle.job.specs.Bytes.{frameCount, jobOf};
-ghost use Rattle.job.proofs.RefusalLaws.{Accepted};
+ghost use Rattle.job.specs.Limits.{mostNodes, mostSlots};
+ghost use Rattle.job.specs.Tree.{TreeWithin};
+ghost use Rattle.job.specs.Read.{Accepted, treeIn};
+ghost use Rattle.job.specs.Sums.{WithSums, HoldsSums, sumsIn, sumsOf};
 ghost use Rattle.smoothing.specs.Lists.{familyIn, rowsIn};
-ghost use Rattle.curves.specs.Curves.{sumsIn, lastIn, HoldsSums};
-ghost use Rattle.planner.specs.Work.{widthOf};
 ghost use Rattle.running.specs.Running.{Stepped, start};
 ghost use Rattle.running.specs.declared.Outcome.the-variants.{Refused};
 ghost use Rattle.running.specs.Work as work;
@@ -34,6 +30,12 @@ pub enum Outcome {
     Taken,
     Done,
     Refused(u64, u64),
+}
+
+impl Outcome {
+    pub const BROKEN_RULE: u64 = 14;
+    // Document 01 gives done no number; this one is clear of the refusals.
+    pub const DONE: u64 = 100;
 }
 
 // The running tree that a step hands on, with what became of it.
@@ -99,7 +101,7 @@ fn link_breaks(
     i: usize,
 ) -> bool
     requires { ⌜ TreeWithin (treeIn job) × (((0 < i) × (i < job .nodes)) × HoldsSums (now sums)) ⌝ }
-    ensures { λ r. ⌜ r ≡ work.breaks (treeIn job) (sumsIn (now (sums .entry))) (lastIn (now (sums .entry))) k (familyIn (now (carried .entry))) (familyIn (now (column .entry))) i ⌝ }
+    ensures { λ r. ⌜ r ≡ work.breaksAt job (now (sums .entry)) k (now (carried .entry)) (now (column .entry)) i ⌝ }
 {
     let last = sums.len() - 1;
     if strays(carried[i], column[i], sums[last]) {
@@ -120,8 +122,10 @@ fn first_breach(
     column: &[u64; Job::MOST_NODES],
 ) -> usize
     requires { ⌜ TreeWithin (treeIn job) × HoldsSums (now sums) ⌝ }
-    ensures { λ r. ⌜ (r ≡ 0 → (i : ℕ) → (0 < i) × (i < job .nodes) → work.breaks (treeIn job) (sumsIn (now (sums .entry))) (lastIn (now (sums .entry))) k (familyIn (now (carried .entry))) (familyIn (now (column .entry))) i ≡ false) ⌝ }
-    ensures { λ r. ⌜ (0 < r → (r < job .nodes) × (work.breaks (treeIn job) (sumsIn (now (sums .entry))) (lastIn (now (sums .entry))) k (familyIn (now (carried .entry))) (familyIn (now (column .entry))) r ≡ true)) ⌝ }
+    ensures { λ r. ⌜ (r ≡ 0 → (i : ℕ) → (0 < i) × (i < job .nodes)
+        → work.breaksAt job (now (sums .entry)) k (now (carried .entry)) (now (column .entry)) i ≡ false) ⌝ }
+    ensures { λ r. ⌜ (0 < r → (r < job .nodes)
+        × (work.breaksAt job (now (sums .entry)) k (now (carried .entry)) (now (column .entry)) r ≡ true)) ⌝ }
 {
     let mut i = 1;
     while i < job.nodes {
@@ -133,19 +137,6 @@ fn first_breach(
     0
 }
 
-fn more(a: u64, b: u64) -> u64
-    ensures { λ r. ⌜ r ≡ max a b ⌝ }
-{
-    if a < b { b } else { a }
-}
-
-// a less b, cut off at 0.
-fn ahead(a: u64, b: u64) -> u64
-    ensures { λ r. ⌜ r ≡ a - b ⌝ }
-{
-    if a < b { 0 } else { a - b }
-}
-
 // By how much x is ahead of the member of a set that is furthest behind.
 fn most_ahead(set: u64, x: u64, column: &[u64; Job::MOST_NODES]) -> u64
     ensures { λ r. ⌜ r ≡ fold (λ g c. max g (x - getD (now (column .entry)) c 0)) 0 (has set) wordBits ⌝ }
@@ -153,7 +144,7 @@ fn most_ahead(set: u64, x: u64, column: &[u64; Job::MOST_NODES]) -> u64
     let mut most: u64 = 0;
     let mut rest = set;
     while rest != 0 {
-        most = more(most, ahead(x, column[base::lowest(rest)]));
+        most = base::max(most, base::minus(x, column[base::lowest(rest)]));
         rest = base::without_lowest(rest);
     }
     most
@@ -165,7 +156,7 @@ fn held_at(job: Job, sums: &[u64], k: usize, column: &[u64; Job::MOST_NODES], i:
     ensures { λ r. ⌜ r ≡ work.held (treeIn job) (sumsIn (now (sums .entry))) k (familyIn (now (column .entry))) i ⌝ }
 {
     if base::member(job.leaves(), i) {
-        return ahead(column[i], curves::played(sums, job.delay[i], k));
+        return base::minus(column[i], curves::played(sums, job.delay[i], k));
     }
     most_ahead(job.children(i), column[i], column)
 }
@@ -180,14 +171,14 @@ fn report(
     sent: &mut [u64],
     held: &mut [u64],
 )
-    requires { ⌜ TreeWithin (treeIn job) × (HoldsSums (now sums) × ((length (now sent) ≡ job .nodes - 1) × (length (now held) ≡ job .nodes - 1))) ⌝ }
-    ensures { λ _. ⌜ now (sent .exit) ≡ tab (λ i. getD (now (column .entry)) (suc i) 0 - getD (now (carried .entry)) (suc i) 0) (job .nodes - 1) ⌝ }
-    ensures { λ _. ⌜ now (held .exit) ≡ tab (λ i. work.held (treeIn job) (sumsIn (now (sums .entry))) k (familyIn (now (column .entry))) (suc i)) (job .nodes - 1) ⌝ }
+    requires { ⌜ (TreeWithin (treeIn job) × HoldsSums (now sums)) × work.Rows job (now sent) (now held) ⌝ }
+    ensures { λ _. ⌜ now (sent .exit) ≡ work.sentRow job (now (carried .entry)) (now (column .entry)) ⌝ }
+    ensures { λ _. ⌜ now (held .exit) ≡ work.heldRow job (now (sums .entry)) k (now (column .entry)) ⌝ }
 {
     let links = job.nodes - 1;
     let mut i = 0;
     while i < links {
-        sent[i] = ahead(column[i + 1], carried[i + 1]);
+        sent[i] = base::minus(column[i + 1], carried[i + 1]);
         held[i] = held_at(job, sums, k, column, i + 1);
         i += 1;
     }
@@ -224,8 +215,9 @@ fn advance(
     sent: &mut [u64],
     held: &mut [u64],
 ) -> Step
-    requires { ⌜ (TreeWithin (treeIn job) × (job .frames ≤ mostFrames)) × (HoldsSums (now sums) × (((state .slot + 1 < widthOf job) × (length (now plan) ≡ (job .nodes - 1) * widthOf job)) × ((length (now sent) ≡ job .nodes - 1) × (length (now held) ≡ job .nodes - 1)))) ⌝ }
-    ensures { λ r. ⌜ work.Advanced (r .outcome) job (now (sums .entry)) (now (plan .entry)) state (r .state) (now (sent .entry)) (now (sent .exit)) (now (held .entry)) (now (held .exit)) ⌝ }
+    requires { ⌜ WithSums job (now sums) × work.Lent job (state .slot) (now plan) (now sent) (now held) ⌝ }
+    ensures { λ r. ⌜ work.Advanced (r .outcome) job (now (sums .entry)) (now (plan .entry)) state (r .state)
+        (now (sent .entry)) (now (sent .exit)) (now (held .entry)) (now (held .exit)) ⌝ }
 {
     let width = job.last_slot() + 1;
     let k = state.slot as usize + 1;
@@ -235,7 +227,7 @@ fn advance(
     if i != 0 {
         return Step {
             state,
-            outcome: Outcome::Refused(14, i as u64),
+            outcome: Outcome::Refused(Outcome::BROKEN_RULE, i as u64),
         };
     }
     report(job, sums, k, &carried, &column, sent, held);
@@ -248,57 +240,7 @@ fn advance(
     }
 }
 
-// The step on an accepted job with slots left, with room for its sums.
-fn with_room(
-    state: Running,
-    bytes: &[u8],
-    job: Job,
-    room: &mut [u64],
-    plan: &[u64],
-    sent: &mut [u64],
-    held: &mut [u64],
-) -> Step
-    requires { ⌜ (Accepted (now bytes) job × (job .frames < length (now room))) × (((state .slot + 1 < widthOf job) × (length (now plan) ≡ (job .nodes - 1) * widthOf job)) × ((length (now sent) ≡ job .nodes - 1) × (length (now held) ≡ job .nodes - 1))) ⌝ }
-    ensures { λ r. ⌜ work.Advanced (r .outcome) job (tab (tree.T (jobOf (now (bytes .entry)))) (frameCount (now (bytes .entry)) + 1)) (now (plan .entry)) state (r .state) (now (sent .entry)) (now (sent .exit)) (now (held .entry)) (now (held .exit)) ⌝ }
-{
-    let count = job.frames + 1;
-    job::sums(bytes, &mut room[0..count]);
-    advance(state, job, &room[0..count], plan, sent, held)
-}
-
-// Room for the sums of a film of fewer frames than this is cleared in no time; that for the longest film costs more than a short
-// film's step.
-const SHORT: usize = 1024;
-
-fn short_room() -> [u64; SHORT]
-    ensures { λ r. ⌜ 1024 ≡ length r ⌝ }
-{
-    [0u64; SHORT]
-}
-
-fn long_room() -> [u64; Job::MOST_FRAMES + 1]
-    ensures { λ r. ⌜ mostFrames + 1 ≡ length r ⌝ }
-{
-    [0u64; Job::MOST_FRAMES + 1]
-}
-
-// The step on an accepted job with a short film and slots left.
-fn with_short_film(
-    state: Running,
-    bytes: &[u8],
-    job: Job,
-    plan: &[u64],
-    sent: &mut [u64],
-    held: &mut [u64],
-) -> Step
-    requires { ⌜ (Accepted (now bytes) job × (job .frames < 1024)) × (((state .slot + 1 < widthOf job) × (length (now plan) ≡ (job .nodes - 1) * widthOf job)) × ((length (now sent) ≡ job .nodes - 1) × (length (now held) ≡ job .nodes - 1))) ⌝ }
-    ensures { λ r. ⌜ work.Advanced (r .outcome) job (tab (tree.T (jobOf (now (bytes .entry)))) (frameCount (now (bytes .entry)) + 1)) (now (plan .entry)) state (r .state) (now (sent .entry)) (now (sent .exit)) (now (held .entry)) (now (held .exit)) ⌝ }
-{
-    let mut room = short_room();
-    with_room(state, bytes, job, &mut room[0..SHORT], plan, sent, held)
-}
-
-// The step on an accepted job with slots left.
+// The step on an accepted job with slots left: it chooses the room for the film's sums.
 fn with_job(
     state: Running,
     bytes: &[u8],
@@ -307,22 +249,23 @@ fn with_job(
     sent: &mut [u64],
     held: &mut [u64],
 ) -> Step
-    requires { ⌜ Accepted (now bytes) job × (((state .slot + 1 < widthOf job) × (length (now plan) ≡ (job .nodes - 1) * widthOf job)) × ((length (now sent) ≡ job .nodes - 1) × (length (now held) ≡ job .nodes - 1))) ⌝ }
-    ensures { λ r. ⌜ work.Advanced (r .outcome) job (tab (tree.T (jobOf (now (bytes .entry)))) (frameCount (now (bytes .entry)) + 1)) (now (plan .entry)) state (r .state) (now (sent .entry)) (now (sent .exit)) (now (held .entry)) (now (held .exit)) ⌝ }
+    requires { ⌜ Accepted (now bytes) job × work.Lent job (state .slot) (now plan) (now sent) (now held) ⌝ }
+    ensures { λ r. ⌜ work.Advanced (r .outcome) job (sumsOf (now (bytes .entry))) (now (plan .entry)) state (r .state)
+        (now (sent .entry)) (now (sent .exit)) (now (held .entry)) (now (held .exit)) ⌝ }
 {
-    if job.frames < SHORT {
-        return with_short_film(state, bytes, job, plan, sent, held);
+    if job.frames < job::TINY_ROOM {
+        let mut room = job::tiny_room();
+        let sums = job::sums(bytes, job, &mut room);
+        return advance(state, job, sums, plan, sent, held);
     }
-    let mut room = long_room();
-    with_room(
-        state,
-        bytes,
-        job,
-        &mut room[0..Job::MOST_FRAMES + 1],
-        plan,
-        sent,
-        held,
-    )
+    if job.frames < job::MIDDLE_ROOM {
+        let mut room = job::middle_room();
+        let sums = job::sums(bytes, job, &mut room);
+        return advance(state, job, sums, plan, sent, held);
+    }
+    let mut room = job::long_room();
+    let sums = job::sums(bytes, job, &mut room);
+    advance(state, job, sums, plan, sent, held)
 }
 
 impl Running {
@@ -338,7 +281,8 @@ impl Running {
 
     // The next slot: the column after this one of any plan, taken just where it keeps the rules.
     pub fn step(self, bytes: &[u8], plan: &[u64], sent: &mut [u64], held: &mut [u64]) -> Step
-        ensures { λ r. ⌜ Stepped (r .outcome) (now (bytes .entry)) (now (plan .entry)) self (r .state) (now (sent .entry)) (now (sent .exit)) (now (held .entry)) (now (held .exit)) ⌝ }
+        ensures { λ r. ⌜ Stepped (r .outcome) (now (bytes .entry)) (now (plan .entry)) self (r .state)
+            (now (sent .entry)) (now (sent .exit)) (now (held .entry)) (now (held .exit)) ⌝ }
     {
         let read = job::read(bytes);
         if read.refusal != 0 {
@@ -346,13 +290,13 @@ impl Running {
         }
         let job = read.job;
         if plan.len() != job.plan_length() {
-            return refused(self, 11);
+            return refused(self, Job::BAD_LENT);
         }
         if sent.len() != job.nodes - 1 {
-            return refused(self, 11);
+            return refused(self, Job::BAD_LENT);
         }
         if held.len() != job.nodes - 1 {
-            return refused(self, 11);
+            return refused(self, Job::BAD_LENT);
         }
         let last = job.last_slot() as u64;
         if last <= self.slot {

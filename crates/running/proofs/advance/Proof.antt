@@ -26,7 +26,7 @@ unfolding H
 width-is c = ap (λ (n : ℕ). n + 1) (c .last-slot .ensures (λ m. 0))
 
 width-fits : (c : tie.After-last-slot) → widthOf (c .before .before .before .before .before .args .job) ≤ mostSlots
-width-fits c = let st = c .before .before .before .before .before in omega (arith, greatestDelay-le (treeIn (st .args .job)) (st .pre .0 .0), st .pre .0 .1)
+width-fits c = let st = c .before .before .before .before .before in omega (arith, greatestDelay-le (treeIn (st .args .job)) (st .pre .0 .tree), st .pre .0 .frames-to)
 
 -- the column read is the one that a step takes
 column-is : (c : tie.After-take-column) → c .take-column .result ≡ taken (c .before .before .before .before .before .before .before .args .job) (c .before .before .before .before .before .before .before .args .plan .now) (c .before .before .before .before .before .before .before .args .state)
@@ -42,16 +42,16 @@ add-width : tie.Need-add-width
 add-width c = omega (arith, width-is c, width-fits c)
 
 add-k : tie.Need-add-k
-add-k c = omega (arith, width-fits c, c .before .before .before .before .before .pre .1 .1 .0 .0)
+add-k c = omega (arith, width-fits c, c .before .before .before .before .before .pre .1 .slots-left)
 
 take-column-requires : tie.Need-take-column-requires
 take-column-requires c κs =
     let st = c .before .before .before .before .before .before in
     let l = c .before in (
-      (omega (arith, st .pre .0 .0 .nodes-from), st .pre .0 .0 .nodes-to),
+      (omega (arith, st .pre .0 .tree .nodes-from), st .pre .0 .tree .nodes-to),
       (
-        (omega (arith, width-is l, st .pre .1 .1 .0 .0), omega (arith, width-is l, width-fits l)),
-        st .pre .1 .1 .0 .1 ∙ ap (λ (w : ℕ). (st .args .job .nodes - 1) * w) (sym (width-is l)),
+        (omega (arith, width-is l, st .pre .1 .slots-left), omega (arith, width-is l, width-fits l)),
+        st .pre .1 .plan-long ∙ ap (λ (w : ℕ). (st .args .job .nodes - 1) * w) (sym (width-is l)),
       ),
     )
 

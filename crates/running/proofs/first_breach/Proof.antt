@@ -5,7 +5,7 @@ use Prim.Native.Nat.{ℕ, _-_, _≤_, _<_}
 use Rattle.base.proofs.BoolLaws.{last-or-below}
 use Rattle.job.specs.Read.{treeIn}
 use Rattle.smoothing.specs.Lists.{familyIn}
-use Rattle.curves.specs.Curves.{sumsIn, lastIn}
+use Rattle.job.specs.Sums.{sumsIn, lastIn}
 use Rattle.running.specs.Work.{breaks}
 use borrow.Author.Needs.{needs}
 use native.Mathlib.Omega.{arith}

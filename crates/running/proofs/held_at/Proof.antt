@@ -12,7 +12,6 @@ use Rattle.base.proofs.member.Reads as member-reads
 use Rattle.curves.proofs.played.Reads as played-reads
 use Rattle.job.proofs.Job.children.Reads as children-reads
 use Rattle.job.proofs.Job.leaves.Reads as leaves-reads
-use Rattle.running.proofs.ahead.Reads as ahead-reads
 use Rattle.running.proofs.most_ahead.Reads as most-ahead-reads
 
 leaves-requires : tie.Need-leaves-requires
@@ -21,11 +20,11 @@ leaves-requires c κs = search needs
 member-requires : tie.Need-member-requires
 member-requires c κs = search needs
 
-mul-ahead : tie.Need-mul-ahead
-mul-ahead c = search needs
+mul-minus : tie.Need-mul-minus
+mul-minus c = search needs
 
-element-copy-out-ahead : tie.Need-element-copy-out-ahead
-element-copy-out-ahead c = search needs
+element-copy-out-minus : tie.Need-element-copy-out-minus
+element-copy-out-minus c = search needs
 
 mul-played : tie.Need-mul-played
 mul-played c = search needs
@@ -36,12 +35,12 @@ element-copy-out-played c = search needs
 played-requires : tie.Need-played-requires
 played-requires c κs = search needs
 
-ahead-requires : tie.Need-ahead-requires
-ahead-requires c κs = search needs
+minus-requires : tie.Need-minus-requires
+minus-requires c κs = search needs
 
 returns : tie.Need-returns
 unfolding held
-returns c = rw (sym (c .before .before .before .before .before .before .leaves .ensures (c .before .before .before .before .before .before .before .before .args .i)) ∙ sym (c .before .before .before .before .before .member .ensures) ∙ c .before .before .before .before .if1 .taken) (c .ahead .ensures ∙ rw (c .before .played .ensures) refl)
+returns c = rw (sym (c .before .before .before .before .before .before .leaves .ensures (c .before .before .before .before .before .before .before .before .args .i)) ∙ sym (c .before .before .before .before .before .member .ensures) ∙ c .before .before .before .before .if1 .taken) (c .minus .ensures ∙ rw (c .before .played .ensures) refl)
 
 children-requires : tie.Need-children-requires
 children-requires c κs = search needs
@@ -68,12 +67,12 @@ held-at-spec =
     (tie.spec
     leaves-requires
     member-requires
-    mul-ahead
-    element-copy-out-ahead
+    mul-minus
+    element-copy-out-minus
     mul-played
     element-copy-out-played
     played-requires
-    ahead-requires
+    minus-requires
     returns
     children-requires
     mul-most-ahead

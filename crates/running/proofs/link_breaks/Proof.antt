@@ -1,5 +1,5 @@
 use mathlib.Core.Path.{_≡_, refl, ap, sym, _∙_}
-use Rattle.curves.specs.Curves.{lastIn}
+use Rattle.job.specs.Sums.{lastIn}
 use Rattle.running.specs.Work.{breaks}
 use native.Mathlib.Omega.{arith}
 use borrow.Author.Needs.{needs}

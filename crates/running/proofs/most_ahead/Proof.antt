@@ -13,8 +13,6 @@ use Rattle.running.proofs.most_ahead.Reads as reads
 use Rattle.running.proofs.most_ahead.Lts as lts
 use Rattle.base.proofs.lowest.Reads as lowest-reads
 use Rattle.base.proofs.without_lowest.Reads as without-lowest-reads
-use Rattle.running.proofs.ahead.Reads as ahead-reads
-use Rattle.running.proofs.more.Reads as more-reads
 
 abbrev Inv-loop : tie.InvT-loop
 Inv-loop set x column most₀ rest₀ most rest = Walked (λ g c. max g (x - getD column c 0)) 0 set rest most
@@ -31,17 +29,17 @@ low c = first-lt (c .before .loop .rest) (c .before .loop .inv .fits) (omega ari
 lowest-requires : tie.Need-lowest-requires Inv-loop μ-loop
 lowest-requires c κs = search needs
 
-mul-ahead : tie.Need-mul-ahead Inv-loop μ-loop
-mul-ahead c = omega (arith, low (c .before), c .lowest .ensures)
+mul-minus : tie.Need-mul-minus Inv-loop μ-loop
+mul-minus c = omega (arith, low (c .before), c .lowest .ensures)
 
-element-copy-out-ahead : tie.Need-element-copy-out-ahead Inv-loop μ-loop
-element-copy-out-ahead c = omega (arith, low (c .before), c .lowest .ensures)
+element-copy-out-minus : tie.Need-element-copy-out-minus Inv-loop μ-loop
+element-copy-out-minus c = omega (arith, low (c .before), c .lowest .ensures)
 
-ahead-requires : tie.Need-ahead-requires Inv-loop μ-loop
-ahead-requires c κs = search needs
+minus-requires : tie.Need-minus-requires Inv-loop μ-loop
+minus-requires c κs = search needs
 
-more-requires : tie.Need-more-requires Inv-loop μ-loop
-more-requires c κs = search needs
+max-requires : tie.Need-max-requires Inv-loop μ-loop
+max-requires c κs = search needs
 
 without-lowest-requires : tie.Need-without-lowest-requires Inv-loop μ-loop
 without-lowest-requires c κs = search needs
@@ -52,7 +50,7 @@ loop-less c = omega (arith, c .without-lowest .ensures .1)
 loop-again : tie.Need-loop-again Inv-loop μ-loop
 loop-again c =
     let s = c .before .before .before .before .before .before .loop in
-    rw (c .before .more .ensures, c .before .before .ahead .ensures, c .before .before .before .before .lowest .ensures)
+    rw (c .before .max .ensures, c .before .before .minus .ensures, c .before .before .before .before .lowest .ensures)
     (walk-next _ _ _ (s .rest) (c .without-lowest .result) (s .most) (s .inv) (omega arith) (c .without-lowest .ensures .1) (c .without-lowest .ensures .0))
 
 returns : tie.Need-returns Inv-loop μ-loop
@@ -66,10 +64,10 @@ most-ahead-spec =
     μ-loop
     loop-holds
     lowest-requires
-    mul-ahead
-    element-copy-out-ahead
-    ahead-requires
-    more-requires
+    mul-minus
+    element-copy-out-minus
+    minus-requires
+    max-requires
     without-lowest-requires
     loop-less
     loop-again

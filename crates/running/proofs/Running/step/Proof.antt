@@ -6,7 +6,8 @@ use Rattle.job.specs.Bytes.{frameAt, jobOf}
 use Rattle.job.specs.Refusal.{refusal}
 use Rattle.job.specs.Tree.{Tree, H, planLength}
 use Rattle.job.specs.declared.Reading.{Reading}
-use Rattle.job.proofs.RefusalLaws.{Accepted, read-accepts, refusedOr-number}
+use Rattle.job.proofs.RefusalLaws.{read-accepts, refusedOr-number}
+use Rattle.job.specs.Read.{Accepted}
 use Rattle.planner.specs.Work.{widthOf}
 use Rattle.running.specs.Running.{stepRefusal, Stepped}
 use Rattle.running.proofs.AnswerLaws.{step-read, step-plan, step-sent, step-held, step-none, stepped}
@@ -127,8 +128,16 @@ returns-5 c =
 
 with-job-requires : tie.Need-with-job-requires
 with-job-requires c κs =
-    let l = c .before .before .before .before .before in
-    (accepted (c .before .before .before .before .before .before .before .before .before .before .before .before), ((omega (arith, width-is (c .before .before .before .before), c .before .before .if5 .left), c .before .before .before .before .before .before .before .before .before .if2 .left ∙ plan-is (c .before .before .before .before .before .before .before .before .before .before)), (c .before .before .before .before .before .before .before .if3 .left, l .if4 .left)))
+    let held = c .before .before .before .before .before in
+    let sent = held .before .before in
+    let plan = sent .before .before in (
+      accepted (plan .before .before .before),
+      record {
+        slots-left = omega (arith, width-is (c .before .before .before .before), c .before .before .if5 .left);
+        plan-long = plan .if2 .left ∙ plan-is (plan .before);
+        rows = record { sent-long = sent .if3 .left; held-long = held .if4 .left };
+      },
+    )
 
 same-length : tie.Need-same-length
 same-length c = search needs

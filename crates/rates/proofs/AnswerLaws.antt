@@ -2,22 +2,19 @@
 use mathlib.Core.List.{List}
 use mathlib.Core.Path.{_≡_, refl, ap, sym, _∙_}
 use mathlib.Core.Logic.{inr, ⊎-elim}
-use Prim.Native.Nat.{ℕ, suc, _+_, _-_, _≤_, _<_}
-use native.Mathlib.Omega.{arith}
-use lib.Dec.{eqb}
+use Prim.Native.Nat.{ℕ, suc, _-_, _≤_}
 use lib.ListN.{length}
 use borrow.Author.Tests.{eq-eqb, ne-eqb}
 use Rattle.base.specs.Table.{tab}
 use Rattle.job.specs.Limits.{longestDelay}
-use Rattle.job.specs.Tree.{Tree, JobData, T}
-use Rattle.job.specs.Bytes.{frameCount, jobOf}
-use Rattle.job.specs.Refusal.{refusal}
-use Rattle.job.specs.Read.{treeIn}
+use Rattle.job.specs.Tree.{Tree, T}
+use Rattle.job.specs.Bytes.{jobOf}
+use Rattle.job.specs.Refusal.{badLent, refusal}
+use Rattle.job.specs.Read.{Accepted}
 use Rattle.job.specs.declared.Job.{Job}
-use Rattle.job.proofs.RefusalLaws.{Accepted}
 use Rattle.smoothing.specs.Tree.{Link}
-use Rattle.curves.specs.Curves.{sumsIn}
-use Rattle.curves.proofs.SumsLaws.{sums-of}
+use Rattle.job.specs.Sums.{sumsOf}
+use Rattle.job.proofs.SumsLaws.{sums-of}
 use Rattle.writing.specs.PutBack.{putBack, memoriesIn}
 use Rattle.writing.proofs.AnswerLaws.{answered-bytes, answered-read}
 use Rattle.rates.specs.declared.Sizing.{Sizing}
@@ -34,7 +31,7 @@ pub early-read : (s : List ℕ) (lent : ℕ) → (refusal s ≡ 0 → ⊥) → e
 unfolding earlyRefusal
 early-read s lent h = rw (ne-eqb (refusal s) 0 h) refl
 
-pub early-lent : (s : List ℕ) (lent : ℕ) → refusal s ≡ 0 → (lent ≡ jobOf s .tree .n - 1 → ⊥) → earlyRefusal s lent ≡ 11
+pub early-lent : (s : List ℕ) (lent : ℕ) → refusal s ≡ 0 → (lent ≡ jobOf s .tree .n - 1 → ⊥) → earlyRefusal s lent ≡ badLent
 unfolding earlyRefusal
 early-lent s lent h ne = rw (h, ne-eqb lent (jobOf s .tree .n - 1) ne) refl
 
@@ -45,7 +42,8 @@ early-none s lent h e = rw (h, eq-eqb lent (jobOf s .tree .n - 1) e) refl
 -- ---- demand 3 of what is answered
 
 pub least-answer : (s : List ℕ) (job : Job) → Accepted s job → (w : ℕ) (l : List ℕ) → let j = jobOf s in w ≤ longestDelay
-    → w ≡ startDelay (j .tree) (j .M) (T j) → l ≡ tab (λ i. memory (j .tree) (j .M) (T j) w (suc i)) (j .tree .n - 1) → Least s w (memoriesIn l)
+    → w ≡ startDelay (j .tree) (j .M) (T j) → l ≡ tab (λ i. memory (j .tree) (j .M) (T j) w (suc i)) (j .tree .n - 1)
+    → Least s w (memoriesIn l)
 least-answer s job acc w l fits is-delay is =
     let j = jobOf s in
     let b = memoriesIn l in
@@ -58,26 +56,26 @@ least-answer s job acc w l fits is-delay is =
       least-delay = delay-least j (acc .within) w fits is-delay;
       least-total = total-least j (acc .within) w fits is-delay b is-memory;
       least-from = from-least j (acc .within) w fits is-delay b is-memory;
-      put-back = within-rates (putBack s w b) j w b (answered-bytes s w b (acc .none) fits small) (answered-read s w b (acc .none) fits small) serves;
+      put-back = within-rates (putBack s w b) j w b (answered-bytes s w b (acc .none) fits small)
+          (answered-read s w b (acc .none) fits small) serves;
     }
 
 -- ---- the same job, by its struct and by its bytes
 
-worked-at : (t t′ : Tree) (M M′ : ℕ) (f f′ : ℕ → ℕ) → t ≡ t′ → M ≡ M′ → f ≡ f′ → (answer : Sizing) (l l′ : List ℕ)
-    → Worked answer t M f l l′ → Worked answer t′ M′ f′ l l′
-worked-at t t′ M M′ f f′ p q r answer l l′ h = rw (p, q, r) at h
-
 module _ (s : List ℕ) (job : Job) (acc : Accepted s job) (l l′ : List ℕ) (long : length l ≡ jobOf s .tree .n - 1) where
-  says : (answer : Sizing) → Worked answer (jobOf s .tree) (jobOf s .M) (T (jobOf s)) l l′ → Sizes answer s l l′
-  unfolding Worked Sizes
-  says (Refused e) w = (w .1 .1, inr (early-none s (length l) (acc .none) long, (w .0, none-serves (jobOf s) (acc .within) (w .1 .0))))
-  says (Sized d all) w =
-      (early-none s (length l) (acc .none) long, (w .0, (w .1 .0, (w .1 .1 .0, (w .1 .1 .1, least-answer s job acc d l′ (w .0) (w .1 .0) (w .1 .1 .0))))))
+  nodes-are : job .nodes ≡ jobOf s .tree .n
+  nodes-are = ap (λ (t : Tree). t .n) (acc .held)
 
-  pub sized : (answer : Sizing) → Worked answer (treeIn job) (job .frames) (sumsIn (tab (T (jobOf s)) (frameCount s + 1))) l l′ → Sizes answer s l l′
-  sized answer h =
-      says answer
-      (worked-at (treeIn job) (jobOf s .tree) (job .frames) (jobOf s .M) (sumsIn (tab (T (jobOf s)) (frameCount s + 1))) (T (jobOf s)) (acc .held) (acc .frames) (sums-of (jobOf s)) answer l l′ h)
+  pub sized : (answer : Sizing) → Worked answer job (sumsOf s) l l′ → Sizes answer s l l′
+  unfolding Worked Sizes
+  sized (Refused e) w =
+      let (number, (past, left)) = rw (acc .held, acc .frames, sums-of (jobOf s)) at w in
+      (left, inr (early-none s (length l) (acc .none) long, (number, none-serves (jobOf s) (acc .within) past)))
+  sized (Sized d all) w =
+      let (fits, (is-delay, (filled, is-total))) = rw (acc .held, nodes-are, acc .frames, sums-of (jobOf s)) at w in (
+        early-none s (length l) (acc .none) long,
+        (fits, (is-delay, (filled, (is-total, least-answer s job acc d l′ fits is-delay filled)))),
+      )
 
 -- ---- the bytes settle the answer, and with it the memories
 
@@ -111,8 +109,10 @@ sizing-settled s (Sized w all) (Refused e) l l′ k k′ long one other =
 sizing-settled s (Sized w all) (Sized w′ all′) l l′ k k′ long one other =
     let j = jobOf s in
     let same : w ≡ w′ = one .1 .1 .0 ∙ sym (other .1 .1 .0) in
-    let filled : l′ ≡ k′ = one .1 .1 .1 .0 ∙ ap (λ (d : ℕ). tab (λ i. memory (j .tree) (j .M) (T j) d (suc i)) (j .tree .n - 1)) same ∙ sym (other .1 .1 .1 .0) in
-    let totals : all ≡ all′ = one .1 .1 .1 .1 .0 ∙ ap (λ (x : List ℕ). total (j .tree) (memoriesIn x)) filled ∙ sym (other .1 .1 .1 .1 .0) in
+    let filled : l′ ≡ k′ = one .1 .1 .1 .0 ∙ ap (λ (d : ℕ). tab (λ i. memory (j .tree) (j .M) (T j) d (suc i)) (j .tree .n - 1))
+    same ∙ sym (other .1 .1 .1 .0) in
+    let totals : all ≡ all′ = one .1 .1 .1 .1 .0 ∙ ap (λ (x : List ℕ). total (j .tree) (memoriesIn x)) filled ∙ sym
+    (other .1 .1 .1 .1 .0) in
     rw (same, totals) refl
 
 -- and what an accepted job has filled is the same

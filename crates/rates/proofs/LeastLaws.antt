@@ -4,7 +4,7 @@ use mathlib.Core.Bool.{Bool, true, false, cond}
 use mathlib.Core.List.{List}
 use mathlib.Core.Path.{_≡_, refl, ap, sym, fun-ext, _∙_}
 use mathlib.Core.Logic.{_⊎_, inl, inr, ⊎-elim}
-use Prim.Native.Nat.{ℕ, zero, suc, _+_, _-_, _*_, _≤_, _<_}
+use Prim.Native.Nat.{ℕ, zero, suc, _+_, _-_, _≤_, _<_}
 use native.Mathlib.Omega.{arith}
 use lib.Dec.{eqb}
 use lib.ListN.{length, getD}
@@ -14,11 +14,11 @@ use Rattle.base.proofs.RangeLaws.{sumOver-monotone, none-passes, which-passes, 
 use Rattle.base.proofs.TableLaws.{getD-tab}
 use borrow.Author.Tests.{eqb-true}
 use Rattle.job.specs.Limits.{longestDelay, greatestMemory}
-use Rattle.job.specs.Tree.{Tree, JobData, JobWithin, link, leaf, below, T, H, planLength}
+use Rattle.job.specs.Tree.{JobData, JobWithin, link, leaf, below, T, H, planLength}
 use Rattle.job.specs.Bytes.{perNode, jobOf}
 use Rattle.job.specs.Refusal.{refusal}
 use Rattle.job.proofs.SlotLaws.{T-top, T-fits}
-use Rattle.job.proofs.TreeLaws.{link-is, link-in, below-in}
+use Rattle.job.proofs.TreeLaws.{link-in, below-in}
 use Rattle.smoothing.specs.Tree.{Link}
 use Rattle.smoothing.specs.Tree as theory-tree
 use Rattle.smoothing.specs.Row.{peak}
@@ -27,14 +27,15 @@ use Rattle.smoothing.specs.Rates.{RateQuestion, WellFormedRates, LeastMemories}
 use Rattle.smoothing.proofs.LazyLaws.{lazy-least}
 use Rattle.smoothing.proofs.NeedLaws.{need-least}
 use Rattle.smoothing.proofs.LeastMemoryLaws.{serves-fast, memory-least}
-use Rattle.curves.proofs.SumsLaws.{job-film}
+use Rattle.job.proofs.SumsLaws.{job-film}
 use Rattle.planner.specs.Rules.{Best}
 use Rattle.planner.specs.declared.Answer.{Answer}
 use Rattle.planner.specs.declared.Answer.the-variants.{Refused, Planned}
 use Rattle.planner.specs.Answer.{Answers, numberOf, planIn}
 use Rattle.planner.proofs.AnswerLaws.{early-none}
 use Rattle.writing.specs.PutBack.{answeredJob, memoriesIn}
-use Rattle.rates.specs.Rates.{Serves, atOrBelow, total, totalFrom, leastRate, inTime, startDelay, memory}
+use Rattle.rates.specs.Rates.{Serves, atOrBelow, total, totalFrom, leastRate, startDelay, memory}
+use Rattle.pacing.specs.Pace.{inTime}
 use Rattle.rates.proofs.TheoryLaws.{question, good, in-time-fast, fast-in-time, memory-is, total-is, totalFrom-is}
 use Rattle.rates.proofs.ServeLaws.{serves-to, serves-from}
 
@@ -45,7 +46,8 @@ unfolding first
 first-least p zero i h u = absurd (omega arith)
 first-least p (suc n) i h u = go (first-least p n) (true-or-false (some p n)) (last-or-below i n h)
   where
-    go : ((x : ℕ) → x < n → p x ≡ true → (first p n ≤ x) × (p (first p n) ≡ true)) → (some p n ≡ true) ⊎ (some p n ≡ false) → (i ≡ n) ⊎ (i < n)
+    go : ((x : ℕ) → x < n → p x ≡ true → (first p n ≤ x) × (p (first p n) ≡ true)) → (some p n ≡ true) ⊎ (some p n ≡ false)
+        → (i ≡ n) ⊎ (i < n)
         → (cond (some p n) (first p n) (cond (p n) n (suc n)) ≤ i) × (p (cond (some p n) (first p n) (cond (p n) n (suc n))) ≡ true)
     go ih (inl e) (inl q) = let (x, l, v) = which-passes p n e in rw e (omega (arith, ih x l v .0), ih x l v .1)
     go ih (inl e) (inr l) = rw e (ih i l u)
@@ -73,9 +75,20 @@ module _ (n : ℕ) (b b′ : ℕ → ℕ) (same : (i : ℕ) → Link n i → b i
           (λ (e : link n i ≡ false). rw e refl)
           (true-or-false (link n i))
 
-answered-same : (j : JobData) (w : ℕ) (b b′ : ℕ → ℕ) → ((i : ℕ) → Link (j .tree .n) i → b i ≡ b′ i) → answeredJob j w b ≡ answeredJob j w b′
+answered-same : (j : JobData) (w : ℕ) (b b′ : ℕ → ℕ) → ((i : ℕ) → Link (j .tree .n) i → b i ≡ b′ i)
+    → answeredJob j w b ≡ answeredJob j w b′
 answered-same j w b b′ same =
-    ap (λ (m : ℕ → ℕ). record { tree = record { n = j .tree .n; parent = j .tree .parent; delay = λ i. cond (leaf (j .tree) i) w 0; memory = m; rate = j .tree .rate }; M = j .M; frame = j .frame })
+    ap (λ (m : ℕ → ℕ). record {
+      tree = record {
+        n = j .tree .n;
+        parent = j .tree .parent;
+        delay = λ i. cond (leaf (j .tree) i) w 0;
+        memory = m;
+        rate = j .tree .rate;
+      };
+      M = j .M;
+      frame = j .frame;
+    })
     (perNode-same (j .tree .n) b b′ same)
 
 serves-same : (j : JobData) (w : ℕ) (b b′ : ℕ → ℕ) → ((i : ℕ) → Link (j .tree .n) i → b i ≡ b′ i) → Serves j w b′ → Serves j w b
@@ -84,7 +97,8 @@ serves-same j w b b′ same served = rw (answered-same j w b b′ same) served
 -- no memory is more than the need
 memory-under : (Q : RateQuestion) (w i : ℕ) → theory.memory Q w i ≤ theory.need Q w i
 unfolding theory.memory
-memory-under Q w i = cond-both (theory-tree.leaf (Q .n) (Q .parent) i) (λ x. x ≤ theory.need Q w i) _ _ (λ e. omega arith) (λ e. omega arith)
+memory-under Q w i = cond-both (theory-tree.leaf (Q .n) (Q .parent) i) (λ x. x ≤ theory.need Q w i) _ _ (λ e. omega arith)
+    (λ e. omega arith)
 
 -- ---- the delay and the memories of an accepted job
 
@@ -104,7 +118,12 @@ module _ (j : JobData) (within : JobWithin j) where
   unfolding startDelay
   delay-least w h e w′ b′ served =
       ⊎-elim
-      (λ (l : w′ < longestDelay + 1). omega (arith, e, first-least (inTime (leastRate (j .tree)) (j .M) (T j)) (longestDelay + 1) w′ l (in-time w′ b′ served) .0))
+      (λ (l : w′ < longestDelay + 1). omega (
+        arith,
+        e,
+        first-least (inTime (leastRate (j .tree)) (j .M) (T j)) (longestDelay + 1) w′ l
+            (in-time w′ b′ served) .0,
+      ))
       (λ (l : longestDelay + 1 ≤ w′). omega arith)
       (lt-or-le w′ (longestDelay + 1))
 
@@ -134,18 +153,21 @@ module _ (j : JobData) (within : JobWithin j) where
       total-least b′ served =
           omega (
             arith,
-            sumOver-monotone (link (j .tree .n)) b (theory.memory Q w) (j .tree .n) (λ i l e. omega (arith, is-theory i (link-in (j .tree .n) i e))),
+            sumOver-monotone (link (j .tree .n)) b (theory.memory Q w) (j .tree .n)
+                (λ i l e. omega (arith, is-theory i (link-in (j .tree .n) i e))),
             least .least-total b′ (serves-to j within w b′ served),
             total-is (j .tree) (theory.memory Q w),
             total-is (j .tree) b′,
           )
 
-      pub from-least : (b′ : ℕ → ℕ) → Serves j w b′ → (i : ℕ) → link (j .tree .n) i ≡ true → totalFrom (j .tree) b i ≤ totalFrom (j .tree) b′ i
+      pub from-least : (b′ : ℕ → ℕ) → Serves j w b′ → (i : ℕ) → link (j .tree .n) i ≡ true
+          → totalFrom (j .tree) b i ≤ totalFrom (j .tree) b′ i
       unfolding totalFrom
       from-least b′ served i h =
           omega (
             arith,
-            sumOver-monotone (atOrBelow (j .tree) i) b (theory.memory Q w) (j .tree .n) (λ x l e. omega (arith, is-theory x (positive x e, l))),
+            sumOver-monotone (atOrBelow (j .tree) i) b (theory.memory Q w) (j .tree .n)
+                (λ x l e. omega (arith, is-theory x (positive x e, l))),
             least .least-from b′ (serves-to j within w b′ served) i (link-in (j .tree .n) i h),
             totalFrom-is (j .tree) (theory.memory Q w) i,
             totalFrom-is (j .tree) b′ i,
@@ -164,7 +186,8 @@ module _ (j : JobData) (within : JobWithin j) where
           need-least Q fair w i (T j (j .M))
           (λ k h. omega (
             arith,
-            lazy-least (j .M + w) (theory.floorRate Q i) (theory.D Q w) (λ x. T j (j .M)) k h (λ x p l. T-top j (x - w)) (λ x p l. omega arith),
+            lazy-least (j .M + w) (theory.floorRate Q i) (theory.D Q w) (λ x. T j (j .M)) k h (λ x p l. T-top j (x - w))
+                (λ x p l. omega arith),
           ))
 
       pub memory-fits : (i : ℕ) → link (j .tree .n) i ≡ true → b i ≤ greatestMemory
@@ -199,7 +222,8 @@ within-rates s′ j w b same read (S, (keeps, fits)) (Planned last all) plan₀ 
         let e : suc i - 1 ≡ i = omega arith in
         rw e
         (ap (λ (x : List ℕ). getD x i 0) (says .1 .1 .1 .1 .1)
-        ∙ getD-tab (λ v. peak (H (jobOf s′)) (planIn (jobOf s′) plan₁ (suc v))) (jobOf s′ .tree .n - 1) i (omega (arith, l .1, ap (λ (x : JobData). x .tree .n) same)))
+        ∙ getD-tab (λ v. peak (H (jobOf s′)) (planIn (jobOf s′) plan₁ (suc v))) (jobOf s′ .tree .n - 1) i
+        (omega (arith, l .1, ap (λ (x : JobData). x .tree .n) same)))
 
     at : (i : ℕ) → Link (j .tree .n) i → link (j .tree .n) i ≡ true → memoriesIn peaks₁ i ≤ j .tree .rate i
     at i l h =

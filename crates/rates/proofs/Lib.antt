@@ -1,15 +1,9 @@
-pub mod SumLaws
-pub mod DelayLaws
 pub mod TheoryLaws
 pub mod ServeLaws
 pub mod LeastLaws
-pub mod MarkLaws
 pub mod NeedLaws
-pub mod PlaceLaws
-pub mod TrimLaws
-pub mod LiftLaws
 pub mod WalkLaws
-pub mod WorkLaws
 pub mod FloorLaws
+pub mod WorkLaws
 pub mod AnswerLaws
 pub mod StarredLaws

@@ -1,19 +1,17 @@
 -- A delay serves with a set of memories in document 01's words just where it does in the theory's.
-use mathlib.Core.Bool.{Bool, true, false, cond}
-use mathlib.Core.Path.{_≡_, refl, ap, sym, fun-ext, _∙_}
-use mathlib.Core.Logic.{⊎-elim, _≢_}
+use mathlib.Core.Bool.{true, false}
+use mathlib.Core.Path.{_≡_, refl, ap, sym, _∙_}
+use mathlib.Core.Logic.{⊎-elim}
 use Prim.Native.Nat.{ℕ, zero, suc, _+_, _-_, _≤_, _<_}
 use native.Mathlib.Omega.{arith}
 use Rattle.base.proofs.BoolLaws.{true-or-false}
 use Rattle.base.proofs.RangeLaws.{greatestOver-above, greatestOver-under}
-use Rattle.job.specs.Tree.{Tree, JobData, JobWithin, link, child, hasChild, leaf, T, greatestDelay, H}
-use Rattle.job.specs.Bytes.{perNode}
+use Rattle.job.specs.Tree.{JobData, JobWithin, link, child, hasChild, leaf, T, greatestDelay, H}
 use Rattle.job.proofs.ReadLaws.{perNode-in}
 use Rattle.job.proofs.SlotLaws.{leaf-link}
 use Rattle.job.proofs.TreeLaws.{link-is, link-in, leaf-in, child-is, child-in, inner-has-leaf, root-has-child}
 use Rattle.smoothing.specs.Tree.{Link}
 use Rattle.smoothing.specs.Tree as theory
-use Rattle.smoothing.specs.Row.{peak}
 use Rattle.smoothing.specs.Plan as theory-plan
 use Rattle.smoothing.specs.Rates as theory-rates
 use Rattle.smoothing.specs.Rates.{problemWith, lowWith, highWith}
@@ -50,7 +48,8 @@ module _ (j : JobData) (within : JobWithin j) (w : ℕ) (b : ℕ → ℕ) where
         arith,
         own,
         greatestOver-above (leaf (answered .tree)) (answered .tree .delay) n l (leaf-in (j .tree) l e) (leaf-kept l ∙ e),
-        greatestOver-under (leaf (answered .tree)) (answered .tree .delay) n w (λ i h f. let d : answered .tree .delay i ≡ w = rw (sym (leaf-kept i) ∙ f) refl in omega arith),
+        greatestOver-under (leaf (answered .tree)) (answered .tree .delay) n w
+            (λ i h f. let d : answered .tree .delay i ≡ w = rw (sym (leaf-kept i) ∙ f) refl in omega arith),
       )
 
   plays : (i k : ℕ) → leaf (j .tree) i ≡ true → D (answered .tree) (T j) i k ≡ T j (k - w)

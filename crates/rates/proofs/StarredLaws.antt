@@ -1,22 +1,24 @@
--- Document 01's eight starred cases, computed from job bytes.
-use mathlib.Core.Bool.{Bool, true, false, _&&_}
+-- Document 01's eight starred cases: one test, computed over the table from job bytes, and what a line that passes it says.
+use mathlib.Core.Bool.{Bool, true, false, cond, not, _&&_, _||_}
 use mathlib.Core.List.{List, [], _∷_}
 use mathlib.Core.Path.{_≡_, refl, ap, sym, _∙_}
-use mathlib.Core.Logic.{⊎-elim}
-use Prim.Native.Nat.{ℕ, zero, suc, _+_, _-_, _*_, _≤_, _<_}
+use mathlib.Core.Logic.{_⊎_, inl, inr, ⊎-elim}
+use Prim.Native.Nat.{ℕ, suc, _+_, _-_, _≤_, _<_}
 use native.Mathlib.Omega.{arith}
-use lib.Dec.{ltb}
+use native.Mathlib.Nat.{mul-le-mul-left}
+use lib.Dec.{eqb, ltb}
 use lib.ListN.{length, getD}
-use borrow.Author.Tests.{ltb-true, ltb-false}
+use borrow.Author.Tests.{ltb-true, ltb-false, eqb-true}
 use Rattle.base.specs.Number.{number}
 use Rattle.base.specs.Range.{sum, some, sumOver, fold, leastOver, greatest}
 use Rattle.base.specs.Table.{tab, rowsOf}
-use Rattle.base.proofs.BoolLaws.{and-left, and-right, otherwise, not-both}
+use Rattle.base.proofs.BoolLaws.{true-or-false, and-left, and-right, or-cases, otherwise, not-both, lt-or-le}
 use Rattle.base.proofs.RangeLaws.{none-passes, which-passes, first-is}
 use Rattle.base.proofs.TableLaws.{length-tab}
 use Rattle.job.specs.Limits.{longestDelay}
-use Rattle.job.specs.Tree.{JobData, JobWithin, link, child, hasChild, leaf, meets, below, T, greatestDelay, H, planLength}
-use Rattle.job.specs.Bytes.{mark, version, nodeCount, frameCount, parentAt, delayAt, memoryAt, rateAt, frameAt, wantedLength, perNode, jobOf}
+use Rattle.job.specs.Tree.{JobData, JobWithin, link, child, hasChild, leaf, meets, below, T, greatestDelay, H}
+use Rattle.job.specs.Bytes.{mark, version, nodeCount, frameCount, parentAt, delayAt, memoryAt, rateAt, frameAt, wantedLength, perNode}
+use Rattle.job.specs.Bytes.{jobOf}
 use Rattle.job.specs.Refusal.{refusal}
 use Rattle.job.proofs.RefusalLaws.{accepted-within}
 use Rattle.job.proofs.SlotLaws.{leaf-link}
@@ -24,27 +26,36 @@ use Rattle.job.proofs.TreeLaws.{leaf-in}
 use Rattle.smoothing.specs.Tree.{put, unlessRoot, turnUp, turnDown, passUp, passDown, close, «open»}
 use Rattle.smoothing.specs.Row.{peak, ceilDiv, leastPeak, lazyBefore, lazy}
 use Rattle.smoothing.specs.Plan.{lower, upper, linkPeak, lazyPlan, plan}
-use Rattle.curves.specs.Curves.{D, lowerIn, lowerCurve, roomIn, room, leastUp, upperCurve, leafBelow, low, high, sumsIn}
-use Rattle.curves.proofs.SumsLaws.{sums-of, job-sums}
-use Rattle.planner.specs.Answer as planner
-use Rattle.planner.specs.Answer.{Answers, planIn, rowsDefined}
-use Rattle.planner.specs.declared.Answer.{Answer}
+use Rattle.curves.specs.Curves.{D, lowerIn, lowerCurve, roomIn, room, leastUp, upperCurve, leafBelow, low, high}
+use Rattle.job.specs.Sums.{sumsIn}
+use Rattle.job.proofs.SumsLaws.{sums-of, job-sums}
+use Rattle.planner.specs.Answer.{noPlan, Answers, planIn, rowsDefined}
 use Rattle.planner.specs.declared.Answer.the-variants as answer
 use Rattle.planner.proofs.KeepLaws.{problemOf, no-plan, plan-best}
 use Rattle.planner.proofs.AnswerLaws.{early-none}
 use Rattle.writing.specs.PutBack.{memoriesIn}
-use Rattle.rates.specs.Rates.{total, floorRate, leastRate, inTime, startDelay, memory}
-use Rattle.rates.specs.Answer.{Sizes}
-use Rattle.rates.specs.Work.{ahead, mostAhead, needsOf, memoryBy}
-use Rattle.rates.specs.Starred.{spell, withMemories, withRates, oneLeaf, table, MemorySays, RateSays, Holds}
-use Rattle.rates.specs.declared.Sizing.{Sizing}
+use Rattle.pacing.specs.Pace.{inTime, ahead, mostAhead}
+use Rattle.pacing.proofs.DelayLaws.{in-time-each, each-in-time}
+use Rattle.rates.specs.Rates.{total, floorRate, leastRate, startDelay, memory}
+use Rattle.rates.specs.Answer.{noDelay, Sizes}
+use Rattle.rates.specs.Work.{memoryBy}
+use Rattle.rates.specs.Starred.{spell, Line, table, MemorySays, RateSays, Says, Holds}
 use Rattle.rates.specs.declared.Sizing.the-variants as sizing
 use Rattle.rates.proofs.AnswerLaws as rates
-use Rattle.rates.proofs.DelayLaws.{in-time-each}
 use Rattle.rates.proofs.LeastLaws.{memory-serves}
-use Rattle.rates.proofs.WorkLaws.{memories-by}
+use Rattle.rates.proofs.WorkLaws.{needsOf, memories-by}
 
--- ---- the memory question
+-- ---- the test of a line
+
+-- two lists have the same entries
+same : {A : Type 0} → (A → A → Bool) → List A → List A → Bool
+same eq [] [] = true
+same eq [] (y ∷ l) = false
+same eq (x ∷ k) [] = false
+same eq (x ∷ k) (y ∷ l) = eq x y && same eq k l
+
+sameRows : List (List ℕ) → List (List ℕ) → Bool
+sameRows = same (same eqb)
 
 -- at some leaf and slot lower exceeds upper
 starving : JobData → Bool
@@ -53,6 +64,78 @@ starving j =
     (λ i. leaf (j .tree) i && some (λ k. ltb (upperCurve (j .tree) (T j) (T j (j .M)) i k) (lowerCurve (j .tree) (T j) i k)) (H j + 1))
     (j .tree .n)
 
+-- the peaks of a plan
+peaksIn : JobData → List ℕ → List ℕ
+peaksIn j plan = tab (λ i. peak (H j) (planIn j plan (suc i))) (j .tree .n - 1)
+
+-- the memories of a job, by passes over its film
+memoriesOf : JobData → List ℕ
+memoriesOf j = tab (λ i. memoryBy (j .tree) (needsOf (j .tree) (tab (T j) (j .M + 1))) (suc i)) (j .tree .n - 1)
+
+-- a delay is in time at the least rate
+onTime : JobData → ℕ → Bool
+onTime j w = inTime (leastRate (j .tree)) (j .M) (T j) w
+
+-- a refusal by this number: the other values are 0 and nothing is filled
+refusedSo : ℕ → List ℕ → List (List ℕ) → Bool
+refusedSo number values filled = same eqb values (number ∷ 0 ∷ 0 ∷ []) && sameRows filled []
+
+-- the plan that the curves define, with its peaks
+plannedSo : JobData → List ℕ → List (List ℕ) → Bool
+plannedSo j values filled =
+    same eqb values (0 ∷ H j ∷ T j (j .M) ∷ []) && sameRows filled (peaksIn j (getD filled 1 []) ∷ rowsDefined j ∷ [])
+
+-- a delay that is in time while the one before it is not, with the memories and their total
+sizedSo : JobData → List ℕ → List (List ℕ) → Bool
+sizedSo j values filled =
+    onTime j (getD values 1 0)
+    && ((eqb (getD values 1 0) 0 || not (onTime j (getD values 1 0 - 1)))
+    && (same eqb values (0 ∷ getD values 1 0 ∷ total (j .tree) (memoriesIn (getD filled 0 [])) ∷ []) && sameRows filled
+    (memoriesOf j ∷ [])))
+
+memoryTest : List ℕ → List ℕ → List (List ℕ) → Bool
+memoryTest s values filled =
+    eqb (refusal s) 0 && cond (starving (jobOf s)) (refusedSo noPlan values filled) (plannedSo (jobOf s) values filled)
+
+rateTest : List ℕ → List ℕ → List (List ℕ) → Bool
+rateTest s values filled =
+    eqb (refusal s) 0 && cond (onTime (jobOf s) longestDelay) (sizedSo (jobOf s) values filled) (refusedSo noDelay values filled)
+
+passes : Line → Bool
+passes line =
+    cond (line .memory) (memoryTest (line .job) (line .values) (line .filled)) (rateTest (line .job) (line .values) (line .filled))
+
+passAll : List Line → Bool
+passAll [] = true
+passAll (line ∷ lines) = passes line && passAll lines
+
+-- ---- what passes is so
+
+same-is : {A : Type 0} (eq : A → A → Bool) → ((x y : A) → eq x y ≡ true → x ≡ y) → (k l : List A) → same eq k l ≡ true → k ≡ l
+unfolding same
+same-is eq right [] [] h = refl
+same-is eq right [] (y ∷ l) h = absurd (not-both h refl)
+same-is eq right (x ∷ k) [] h = absurd (not-both h refl)
+same-is eq right (x ∷ k) (y ∷ l) h =
+    rw (right x y (and-left (eq x y) (same eq k l) h), same-is eq right k l (and-right (eq x y) (same eq k l) h)) refl
+
+same-row : (k l : List ℕ) → same eqb k l ≡ true → k ≡ l
+same-row = same-is eqb eqb-true
+
+same-rows : (k l : List (List ℕ)) → sameRows k l ≡ true → k ≡ l
+unfolding sameRows
+same-rows = same-is (same eqb) same-row
+
+-- a longer delay is in time where a shorter one is
+time-grows : (j : JobData) (w w′ : ℕ) → w ≤ w′ → onTime j w ≡ true → onTime j w′ ≡ true
+unfolding onTime
+time-grows j w w′ h e =
+    let r = leastRate (j .tree) in
+    each-in-time r (j .M) (T j) w′
+    (λ m l. let more : m + w ≤ m + w′ = omega arith in omega (arith, in-time-each r (j .M) (T j) w e m l, mul-le-mul-left r more))
+
+-- ---- the memory question
+
 module _ (s : List ℕ) (none : refusal s ≡ 0) where
   abbrev j : JobData
   j = jobOf s
@@ -60,13 +143,14 @@ module _ (s : List ℕ) (none : refusal s ≡ 0) where
   within : JobWithin (jobOf s)
   within = accepted-within s none
 
-  -- none does: the answer is the plan that the curves define, with its peaks
-  planned : starving (jobOf s) ≡ false → (last all : ℕ) (peaks plan : List ℕ) → H (jobOf s) ≡ last → T (jobOf s) (jobOf s .M) ≡ all → rowsDefined (jobOf s) ≡ plan
-      → tab (λ i. peak (H (jobOf s)) (planIn (jobOf s) plan (suc i))) (jobOf s .tree .n - 1) ≡ peaks
-      → MemorySays s (0 ∷ last ∷ all ∷ []) (peaks ∷ plan ∷ [])
-  unfolding starving Answers
-  planned fed last all peaks plan′ is-last is-all is-plan is-peaks (answer.Refused e) plan₀ plan₁ peaks₀ peaks₁ long short says =
-      let fine : (i : ℕ) → leaf (j .tree) i ≡ true → (k : ℕ) → k ≤ H j → lowerCurve (j .tree) (T j) i k ≤ upperCurve (j .tree) (T j) (T j (j .M)) i k =
+  -- no leaf starves: the answer is the plan that the curves define, with its peaks
+  planned : starving (jobOf s) ≡ false
+      → MemorySays s (0 ∷ H (jobOf s) ∷ T (jobOf s) (jobOf s .M) ∷ []) (peaksIn (jobOf s) (rowsDefined (jobOf s)) ∷ rowsDefined
+      (jobOf s) ∷ [])
+  unfolding starving peaksIn Answers
+  planned fed (answer.Refused e) plan₀ plan₁ peaks₀ peaks₁ long short says =
+      let fine : (i : ℕ) → leaf (j .tree) i ≡ true → (k : ℕ) → k ≤ H j → lowerCurve (j .tree) (T j) i k ≤ upperCurve (j .tree) (T j)
+      (T j (j .M)) i k =
       λ i l k h.
       let inner = none-passes _ (j .tree .n) fed i (leaf-in (j .tree) i l) in
       ltb-false _ _ (none-passes _ (H j + 1) (rw l at inner) k (omega arith)) in
@@ -75,12 +159,12 @@ module _ (s : List ℕ) (none : refusal s ≡ 0) where
       (λ early. early .1 (early-none s (length plan₀) (length peaks₀) none long short))
       (λ no. no .1 .1 (plan (problemOf j)) (plan-best j within fine .keeps))
       (says .1 .1))
-  planned fed last all peaks plan′ is-last is-all is-plan is-peaks (answer.Planned h t) plan₀ plan₁ peaks₀ peaks₁ long short says =
-      let rows : plan₁ ≡ plan′ = says .1 .1 .1 .0 ∙ is-plan in
-      let tops : peaks₁ ≡ peaks = says .1 .1 .1 .1 .1 ∙ rw rows is-peaks in
-      (rw (says .1 .0 ∙ is-last, says .1 .1 .0 ∙ is-all) refl, rw (rows, tops) refl)
+  planned fed (answer.Planned h t) plan₀ plan₁ peaks₀ peaks₁ long short says =
+      let rows : plan₁ ≡ rowsDefined j = says .1 .1 .1 .0 in
+      let tops : peaks₁ ≡ tab (λ i. peak (H j) (planIn j (rowsDefined j) (suc i))) (j .tree .n - 1) = says .1 .1 .1 .1 .1 ∙ rw rows refl in
+      (rw (says .1 .0, says .1 .1 .0) refl, rw (rows, tops) refl)
 
-  -- one does: the answer is 12
+  -- one starves: the answer is 12
   starved : starving (jobOf s) ≡ true → MemorySays s (12 ∷ 0 ∷ 0 ∷ []) []
   unfolding starving Answers
   starved found (answer.Refused e) plan₀ plan₁ peaks₀ peaks₁ long short says =
@@ -92,42 +176,61 @@ module _ (s : List ℕ) (none : refusal s ≡ 0) where
       let (i, l, e) = which-passes _ (j .tree .n) found in
       let (k, q, f) = which-passes _ (H j + 1) (and-right (leaf (j .tree) i) _ e) in
       absurd
-      (no-plan j within i (leaf-link (j .tree) (within .tree) i (and-left (leaf (j .tree) i) _ e)) k (omega arith) (ltb-true _ _ f) (planIn j plan₁) (says .1 .1 .1 .1 .0 .keeps))
+      (no-plan j within i (leaf-link (j .tree) (within .tree) i (and-left (leaf (j .tree) i) _ e)) k (omega arith) (ltb-true _ _ f)
+      (planIn j plan₁) (says .1 .1 .1 .1 .0 .keeps))
 
   -- ---- the rate question
 
-  abbrev delay : ℕ
-  delay = startDelay (jobOf s .tree) (jobOf s .M) (T (jobOf s))
+  -- the first delay that is in time is a delay that is, while the one before it is not
+  delay-at : (w : ℕ) → w ≤ longestDelay → onTime (jobOf s) w ≡ true → (eqb w 0 || not (onTime (jobOf s) (w - 1))) ≡ true
+      → w ≡ startDelay (jobOf s .tree) (jobOf s .M) (T (jobOf s))
+  unfolding startDelay onTime
+  delay-at w h right slow =
+      first-is (inTime (leastRate (j .tree)) (j .M) (T j)) (longestDelay + 1) w (omega arith) (λ q. right)
+      (λ y q. otherwise (onTime j y) (λ e.
+      ⊎-elim
+      (λ (z : eqb w 0 ≡ true). omega (arith, eqb-true w 0 z))
+      (λ (z : not (onTime j (w - 1)) ≡ true). not-both (rw (time-grows j y (w - 1) (omega arith) e) at z) refl)
+      (or-cases (eqb w 0) (not (onTime j (w - 1))) slow)))
 
-  -- w is the first in time, as no lower one is for frame m
-  delay-at : (w m : ℕ) → w ≤ longestDelay + 1 → (w ≤ longestDelay → inTime (leastRate (jobOf s .tree)) (jobOf s .M) (T (jobOf s)) w ≡ true) → m ≤ jobOf s .M
-      → ((y : ℕ) → y < w → leastRate (jobOf s .tree) * (m + y) < T (jobOf s) m) → w ≡ startDelay (jobOf s .tree) (jobOf s .M) (T (jobOf s))
-  unfolding startDelay
-  delay-at w m h right l slow =
-      first-is (inTime (leastRate (j .tree)) (j .M) (T j)) (longestDelay + 1) w h (λ q. right (omega arith))
-      (λ y q. otherwise _ (λ e. omega (arith, slow y q, in-time-each (leastRate (j .tree)) (j .M) (T j) y e m l)))
+  -- and it is no longer than the longest, where that is in time
+  delay-fits : (w : ℕ) → onTime (jobOf s) longestDelay ≡ true → (eqb w 0 || not (onTime (jobOf s) (w - 1))) ≡ true → w ≤ longestDelay
+  delay-fits w late slow =
+      ⊎-elim
+      (λ (z : eqb w 0 ≡ true). omega (arith, eqb-true w 0 z))
+      (λ (z : not (onTime j (w - 1)) ≡ true). ⊎-elim
+      (λ (l : longestDelay < w). absurd (not-both (rw (time-grows j longestDelay (w - 1) (omega arith) late) at z) refl))
+      (λ (l : w ≤ longestDelay). l)
+      (lt-or-le longestDelay w))
+      (or-cases (eqb w 0) (not (onTime j (w - 1))) slow)
 
-  sized : (w all : ℕ) (memories : List ℕ) → w ≤ longestDelay → w ≡ startDelay (jobOf s .tree) (jobOf s .M) (T (jobOf s))
-      → tab (λ i. memoryBy (jobOf s .tree) (needsOf (jobOf s .tree) (tab (T (jobOf s)) (jobOf s .M + 1))) (suc i)) (jobOf s .tree .n - 1) ≡ memories
-      → total (jobOf s .tree) (memoriesIn memories) ≡ all
-      → RateSays s (0 ∷ w ∷ all ∷ []) (memories ∷ [])
-  unfolding Sizes
-  sized w all memories fits is-delay are is-total (sizing.Refused e) memories₀ memories₁ long says =
+  delay-none : onTime (jobOf s) longestDelay ≡ false → longestDelay + 1 ≡ startDelay (jobOf s .tree) (jobOf s .M) (T (jobOf s))
+  unfolding startDelay onTime
+  delay-none late =
+      first-is (inTime (leastRate (j .tree)) (j .M) (T j)) (longestDelay + 1) (longestDelay + 1) (omega arith) (λ q. absurd (omega arith))
+      (λ y q. otherwise (onTime j y) (λ e. not-both (time-grows j y longestDelay (omega arith) e) late))
+
+  sized : (w : ℕ) → w ≤ longestDelay → w ≡ startDelay (jobOf s .tree) (jobOf s .M) (T (jobOf s))
+      → RateSays s (0 ∷ w ∷ total (jobOf s .tree) (memoriesIn (memoriesOf (jobOf s))) ∷ []) (memoriesOf (jobOf s) ∷ [])
+  unfolding memoriesOf Sizes
+  sized w fits is-delay (sizing.Refused e) memories₀ memories₁ long says =
       absurd
       (⊎-elim
       (λ early. early .1 (rates.early-none s (length memories₀) none long))
-      (λ no. no .1 .1 w (memory (j .tree) (j .M) (T j) w) fits (memory-serves j within w fits is-delay (memory (j .tree) (j .M) (T j) w) (λ i h. refl)))
+      (λ no. no .1 .1 w (memory (j .tree) (j .M) (T j) w) fits (memory-serves j within w fits is-delay (memory (j .tree) (j .M) (T j) w)
+      (λ i h. refl)))
       (says .1))
-  sized w all memories fits is-delay are is-total (sizing.Sized w′ all′) memories₀ memories₁ long says =
-      let same : w′ ≡ w = says .1 .1 .0 ∙ sym is-delay in
+  sized w fits is-delay (sizing.Sized w′ all′) memories₀ memories₁ long says =
+      let is-w : w′ ≡ w = says .1 .1 .0 ∙ sym is-delay in
       let sums = tab (T j) (j .M + 1) in
-      let by : tab (λ i. memoryBy (j .tree) (needsOf (j .tree) sums) (suc i)) (j .tree .n - 1) ≡ tab (λ i. memory (j .tree) (j .M) (T j) w (suc i)) (j .tree .n - 1) =
+      let by : tab (λ i. memoryBy (j .tree) (needsOf (j .tree) sums) (suc i)) (j .tree .n - 1) ≡ tab
+      (λ i. memory (j .tree) (j .M) (T j) w (suc i)) (j .tree .n - 1) =
       memories-by (j .tree) (within .tree) sums (job-sums j within) (j .M) (length-tab (T j) (j .M + 1)) w
       ∙ ap (λ (f : ℕ → ℕ). tab (λ i. memory (j .tree) (j .M) f w (suc i)) (j .tree .n - 1)) (sums-of j) in
-      let filled : memories₁ ≡ memories = rw same at (says .1 .1 .1 .0) ∙ sym by ∙ are in
-      (rw (same, says .1 .1 .1 .1 .0, filled, is-total) refl, rw filled refl)
+      let filled : memories₁ ≡ memoriesOf j = rw is-w at (says .1 .1 .1 .0) ∙ sym by in
+      (rw (is-w, says .1 .1 .1 .1 .0, filled) refl, rw filled refl)
 
-  none-in-time : longestDelay < startDelay (jobOf s .tree) (jobOf s .M) (T (jobOf s)) → RateSays s (13 ∷ 0 ∷ 0 ∷ []) []
+  none-in-time : longestDelay < startDelay (jobOf s .tree) (jobOf s .M) (T (jobOf s)) → RateSays s (noDelay ∷ 0 ∷ 0 ∷ []) []
   unfolding Sizes
   none-in-time past (sizing.Refused e) memories₀ memories₁ long says =
       ⊎-elim
@@ -136,238 +239,108 @@ module _ (s : List ℕ) (none : refusal s ≡ 0) where
       (says .1)
   none-in-time past (sizing.Sized w all) memories₀ memories₁ long says = absurd (omega (arith, says .1 .0, says .1 .1 .0))
 
--- ---- the lines
+-- ---- a line that passes is true
 
--- first
+rate-says-at : (s : List ℕ) (v v′ : List ℕ) (f f′ : List (List ℕ)) → v ≡ v′ → f ≡ f′ → RateSays s v′ f′ → RateSays s v f
+rate-says-at s v v′ f f′ p q h = rw (p, q) h
 
-first-read : refusal (withMemories 0 0 6 6) ≡ 0
-unfolding spell number sum some link child hasChild leaf mark version nodeCount frameCount parentAt delayAt memoryAt rateAt frameAt wantedLength perNode refusal
-first-read = refl
+module _ (values : List ℕ) (filled : List (List ℕ)) where
+  refused-so : (number : ℕ) → refusedSo number values filled ≡ true → (values ≡ number ∷ 0 ∷ 0 ∷ []) × (filled ≡ [])
+  unfolding refusedSo
+  refused-so number h =
+      let value = same eqb values (number ∷ 0 ∷ 0 ∷ []) in
+      let rows = sameRows filled [] in
+      (same-row _ _ (and-left value rows h), same-rows _ _ (and-right value rows h))
 
-first-fed : starving (jobOf (withMemories 0 0 6 6)) ≡ false
-unfolding spell number sum some fold link child hasChild leaf T H greatestDelay nodeCount frameCount parentAt delayAt memoryAt rateAt frameAt perNode meets below leastOver D leafBelow lowerIn lowerCurve roomIn room leastUp upperCurve starving
-first-fed = refl
+  planned-so : (j : JobData) → plannedSo j values filled ≡ true
+      → (values ≡ 0 ∷ H j ∷ T j (j .M) ∷ []) × (filled ≡ peaksIn j (rowsDefined j) ∷ rowsDefined j ∷ [])
+  unfolding plannedSo
+  planned-so j h =
+      let value = same eqb values (0 ∷ H j ∷ T j (j .M) ∷ []) in
+      let rows = sameRows filled (peaksIn j (getD filled 1 []) ∷ rowsDefined j ∷ []) in
+      let are = same-rows filled _ (and-right value rows h) in
+      let is-plan : getD filled 1 [] ≡ rowsDefined j = ap (λ (f : List (List ℕ)). getD f 1 []) are in
+      (same-row _ _ (and-left value rows h), are ∙ ap (λ (p : List ℕ). peaksIn j p ∷ rowsDefined j ∷ []) is-plan)
 
-first-last : H (jobOf (withMemories 0 0 6 6)) ≡ 3
-unfolding spell number sum some fold link child hasChild leaf T H greatestDelay nodeCount frameCount parentAt delayAt memoryAt rateAt frameAt perNode
-first-last = refl
+  sized-so : (j : JobData) → sizedSo j values filled ≡ true
+      → (onTime j (getD values 1 0) ≡ true)
+      × (((eqb (getD values 1 0) 0 || not (onTime j (getD values 1 0 - 1))) ≡ true)
+      × ((values ≡ 0 ∷ getD values 1 0 ∷ total (j .tree) (memoriesIn (memoriesOf j)) ∷ []) × (filled ≡ memoriesOf j ∷ [])))
+  unfolding sizedSo
+  sized-so j h =
+      let now = onTime j (getD values 1 0) in
+      let late = eqb (getD values 1 0) 0 || not (onTime j (getD values 1 0 - 1)) in
+      let value = same eqb values (0 ∷ getD values 1 0 ∷ total (j .tree) (memoriesIn (getD filled 0 [])) ∷ []) in
+      let rows = sameRows filled (memoriesOf j ∷ []) in
+      let rest = and-right now (late && (value && rows)) h in
+      let last = and-right late (value && rows) rest in
+      let are = same-rows filled _ (and-right value rows last) in
+      let is-memories : getD filled 0 [] ≡ memoriesOf j = ap (λ (f : List (List ℕ)). getD f 0 []) are in (
+        and-left now (late && (value && rows)) h,
+        (
+          and-left late (value && rows) rest,
+          (
+            same-row values _ (and-left value rows last) ∙ ap (λ (m : List ℕ). 0 ∷ getD values 1 0 ∷ total (j .tree) (memoriesIn m) ∷ [])
+                is-memories,
+            are,
+          ),
+        ),
+      )
 
-first-film : T (jobOf (withMemories 0 0 6 6)) (jobOf (withMemories 0 0 6 6) .M) ≡ 15
-unfolding spell number sum some fold link child hasChild leaf T H greatestDelay nodeCount frameCount parentAt delayAt memoryAt rateAt frameAt perNode
-first-film = refl
+memory-line : (s values : List ℕ) (filled : List (List ℕ)) → memoryTest s values filled ≡ true → MemorySays s values filled
+unfolding memoryTest
+memory-line s values filled h = go (and-right (eqb (refusal s) 0) _ h) (true-or-false (starving (jobOf s)))
+  where
+    none : refusal s ≡ 0
+    none = eqb-true (refusal s) 0 (and-left (eqb (refusal s) 0) _ h)
 
-first-plan : rowsDefined (jobOf (withMemories 0 0 6 6)) ≡ 0 ∷ 7 ∷ 14 ∷ 15 ∷ 0 ∷ 7 ∷ 14 ∷ 15 ∷ 0 ∷ 7 ∷ 14 ∷ 15 ∷ []
-unfolding spell number sum some fold link child hasChild leaf T H greatestDelay nodeCount frameCount parentAt delayAt memoryAt rateAt frameAt perNode greatest tab rowsOf put unlessRoot turnUp turnDown passUp passDown close «open» ceilDiv leastPeak lazyBefore lazy lower upper linkPeak lazyPlan plan D low high
-first-plan = refl
+    go : cond (starving (jobOf s)) (refusedSo noPlan values filled) (plannedSo (jobOf s) values filled) ≡ true
+        → (starving (jobOf s) ≡ true) ⊎ (starving (jobOf s) ≡ false) → MemorySays s values filled
+    go test (inl e) = let (are, rows) = refused-so values filled 12 (rw e at test) in rw (are, rows) (starved s none e)
+    go test (inr e) = let (are, rows) = planned-so values filled (jobOf s) (rw e at test) in rw (are, rows) (planned s none e)
 
-first-peaks : tab (λ i. peak (H (jobOf (withMemories 0 0 6 6))) (planIn (jobOf (withMemories 0 0 6 6)) (0 ∷ 7 ∷ 14 ∷ 15 ∷ 0 ∷ 7 ∷ 14 ∷ 15 ∷ 0 ∷ 7 ∷ 14 ∷ 15 ∷ []) (suc i))) (jobOf (withMemories 0 0 6 6) .tree .n - 1) ≡ 7 ∷ 7 ∷ 7 ∷ []
-unfolding spell number sum some fold link child hasChild leaf T H greatestDelay nodeCount frameCount parentAt delayAt memoryAt rateAt frameAt perNode greatest tab peak
-first-peaks = refl
+rate-line : (s values : List ℕ) (filled : List (List ℕ)) → rateTest s values filled ≡ true → RateSays s values filled
+unfolding rateTest
+rate-line s values filled h = go (and-right (eqb (refusal s) 0) _ h) (true-or-false (onTime (jobOf s) longestDelay))
+  where
+    none : refusal s ≡ 0
+    none = eqb-true (refusal s) 0 (and-left (eqb (refusal s) 0) _ h)
 
--- second
+    go : cond (onTime (jobOf s) longestDelay) (sizedSo (jobOf s) values filled) (refusedSo noDelay values filled) ≡ true
+        → (onTime (jobOf s) longestDelay ≡ true) ⊎ (onTime (jobOf s) longestDelay ≡ false) → RateSays s values filled
+    go test (inl e) =
+        let (right, (slow, (are, rows))) = sized-so values filled (jobOf s) (rw e at test) in
+        let fits = delay-fits s none (getD values 1 0) e slow in
+        rate-says-at s values _ filled _ are rows (sized s none (getD values 1 0) fits (delay-at s none (getD values 1 0) fits right slow))
+    go test (inr e) =
+        let (are, rows) = refused-so values filled noDelay (rw e at test) in
+        rw (are, rows) (none-in-time s none (omega (arith, delay-none s none e)))
 
-second-read : refusal (withMemories 0 6 0 6) ≡ 0
-unfolding spell number sum some link child hasChild leaf mark version nodeCount frameCount parentAt delayAt memoryAt rateAt frameAt wantedLength perNode refusal
-second-read = refl
+line-is : (line : Line) → passes line ≡ true → Says (line .memory) (line .job) (line .values) (line .filled)
+unfolding passes
+line-is line h = go (line .memory) h
+  where
+    go : (b : Bool) → cond b (memoryTest (line .job) (line .values) (line .filled)) (rateTest (line .job) (line .values) (line .filled))
+        ≡ true
+        → Says b (line .job) (line .values) (line .filled)
+    go true h = memory-line _ _ _ h
+    go false h = rate-line _ _ _ h
 
-second-fed : starving (jobOf (withMemories 0 6 0 6)) ≡ false
-unfolding spell number sum some fold link child hasChild leaf T H greatestDelay nodeCount frameCount parentAt delayAt memoryAt rateAt frameAt perNode meets below leastOver D leafBelow lowerIn lowerCurve roomIn room leastUp upperCurve starving
-second-fed = refl
-
-second-last : H (jobOf (withMemories 0 6 0 6)) ≡ 3
-unfolding spell number sum some fold link child hasChild leaf T H greatestDelay nodeCount frameCount parentAt delayAt memoryAt rateAt frameAt perNode
-second-last = refl
-
-second-film : T (jobOf (withMemories 0 6 0 6)) (jobOf (withMemories 0 6 0 6) .M) ≡ 15
-unfolding spell number sum some fold link child hasChild leaf T H greatestDelay nodeCount frameCount parentAt delayAt memoryAt rateAt frameAt perNode
-second-film = refl
-
-second-plan : rowsDefined (jobOf (withMemories 0 6 0 6)) ≡ 0 ∷ 7 ∷ 14 ∷ 15 ∷ 0 ∷ 4 ∷ 14 ∷ 15 ∷ 0 ∷ 7 ∷ 14 ∷ 15 ∷ []
-unfolding spell number sum some fold link child hasChild leaf T H greatestDelay nodeCount frameCount parentAt delayAt memoryAt rateAt frameAt perNode greatest tab rowsOf put unlessRoot turnUp turnDown passUp passDown close «open» ceilDiv leastPeak lazyBefore lazy lower upper linkPeak lazyPlan plan D low high
-second-plan = refl
-
-second-peaks : tab (λ i. peak (H (jobOf (withMemories 0 6 0 6))) (planIn (jobOf (withMemories 0 6 0 6)) (0 ∷ 7 ∷ 14 ∷ 15 ∷ 0 ∷ 4 ∷ 14 ∷ 15 ∷ 0 ∷ 7 ∷ 14 ∷ 15 ∷ []) (suc i))) (jobOf (withMemories 0 6 0 6) .tree .n - 1) ≡ 7 ∷ 10 ∷ 7 ∷ []
-unfolding spell number sum some fold link child hasChild leaf T H greatestDelay nodeCount frameCount parentAt delayAt memoryAt rateAt frameAt perNode greatest tab peak
-second-peaks = refl
-
--- third
-
-third-read : refusal (withMemories 1 4 0 6) ≡ 0
-unfolding spell number sum some link child hasChild leaf mark version nodeCount frameCount parentAt delayAt memoryAt rateAt frameAt wantedLength perNode refusal
-third-read = refl
-
-third-fed : starving (jobOf (withMemories 1 4 0 6)) ≡ false
-unfolding spell number sum some fold link child hasChild leaf T H greatestDelay nodeCount frameCount parentAt delayAt memoryAt rateAt frameAt perNode meets below leastOver D leafBelow lowerIn lowerCurve roomIn room leastUp upperCurve starving
-third-fed = refl
-
-third-last : H (jobOf (withMemories 1 4 0 6)) ≡ 4
-unfolding spell number sum some fold link child hasChild leaf T H greatestDelay nodeCount frameCount parentAt delayAt memoryAt rateAt frameAt perNode
-third-last = refl
-
-third-film : T (jobOf (withMemories 1 4 0 6)) (jobOf (withMemories 1 4 0 6) .M) ≡ 15
-unfolding spell number sum some fold link child hasChild leaf T H greatestDelay nodeCount frameCount parentAt delayAt memoryAt rateAt frameAt perNode
-third-film = refl
-
-third-plan : rowsDefined (jobOf (withMemories 1 4 0 6)) ≡ 0 ∷ 7 ∷ 14 ∷ 15 ∷ 15 ∷ 0 ∷ 4 ∷ 14 ∷ 15 ∷ 15 ∷ 0 ∷ 5 ∷ 10 ∷ 14 ∷ 15 ∷ []
-unfolding spell number sum some fold link child hasChild leaf T H greatestDelay nodeCount frameCount parentAt delayAt memoryAt rateAt frameAt perNode greatest tab rowsOf put unlessRoot turnUp turnDown passUp passDown close «open» ceilDiv leastPeak lazyBefore lazy lower upper linkPeak lazyPlan plan D low high
-third-plan = refl
-
-third-peaks : tab (λ i. peak (H (jobOf (withMemories 1 4 0 6))) (planIn (jobOf (withMemories 1 4 0 6)) (0 ∷ 7 ∷ 14 ∷ 15 ∷ 15 ∷ 0 ∷ 4 ∷ 14 ∷ 15 ∷ 15 ∷ 0 ∷ 5 ∷ 10 ∷ 14 ∷ 15 ∷ []) (suc i))) (jobOf (withMemories 1 4 0 6) .tree .n - 1) ≡ 7 ∷ 10 ∷ 5 ∷ []
-unfolding spell number sum some fold link child hasChild leaf T H greatestDelay nodeCount frameCount parentAt delayAt memoryAt rateAt frameAt perNode greatest tab peak
-third-peaks = refl
-
--- fourth
-
-fourth-read : refusal (withMemories 1 4 0 5) ≡ 0
-unfolding spell number sum some link child hasChild leaf mark version nodeCount frameCount parentAt delayAt memoryAt rateAt frameAt wantedLength perNode refusal
-fourth-read = refl
-
-fourth-starves : starving (jobOf (withMemories 1 4 0 5)) ≡ true
-unfolding spell number sum some fold link child hasChild leaf T H greatestDelay nodeCount frameCount parentAt delayAt memoryAt rateAt frameAt perNode meets below leastOver D leafBelow lowerIn lowerCurve roomIn room leastUp upperCurve starving
-fourth-starves = refl
-
--- fifth
-
-fifth-read : refusal (withRates 5 10 4 4 10 1) ≡ 0
-unfolding spell number sum some link child hasChild leaf mark version nodeCount frameCount parentAt delayAt memoryAt rateAt frameAt wantedLength perNode refusal
-fifth-read = refl
-
-fifth-rate : leastRate (jobOf (withRates 5 10 4 4 10 1) .tree) ≡ 4
-unfolding spell number sum some fold link child hasChild leaf T H greatestDelay nodeCount frameCount parentAt delayAt memoryAt rateAt frameAt perNode meets below leastOver leastRate inTime
-fifth-rate = refl
-
-fifth-film : T (jobOf (withRates 5 10 4 4 10 1)) 2 ≡ 14
-unfolding spell number sum some fold link child hasChild leaf T H greatestDelay nodeCount frameCount parentAt delayAt memoryAt rateAt frameAt perNode
-fifth-film = refl
-
-fifth-in-time : inTime (leastRate (jobOf (withRates 5 10 4 4 10 1) .tree)) (jobOf (withRates 5 10 4 4 10 1) .M) (T (jobOf (withRates 5 10 4 4 10 1))) 2 ≡ true
-unfolding spell number sum some fold link child hasChild leaf T H greatestDelay nodeCount frameCount parentAt delayAt memoryAt rateAt frameAt perNode meets below leastOver leastRate inTime
-fifth-in-time = refl
-
-fifth-frames : jobOf (withRates 5 10 4 4 10 1) .M ≡ 3
-unfolding spell number sum some fold link child hasChild leaf T H greatestDelay nodeCount frameCount parentAt delayAt memoryAt rateAt frameAt perNode
-fifth-frames = refl
-
-fifth-delay : 2 ≡ delay (withRates 5 10 4 4 10 1) fifth-read
-fifth-delay = delay-at (withRates 5 10 4 4 10 1) fifth-read 2 2 (omega arith) (λ h. fifth-in-time) (omega (arith, fifth-frames)) (λ y h. rw (fifth-rate, fifth-film) (omega arith))
-
-fifth-memories : tab (λ i. memoryBy (jobOf (withRates 5 10 4 4 10 1) .tree) (needsOf (jobOf (withRates 5 10 4 4 10 1) .tree) (tab (T (jobOf (withRates 5 10 4 4 10 1))) (jobOf (withRates 5 10 4 4 10 1) .M + 1))) (suc i)) (jobOf (withRates 5 10 4 4 10 1) .tree .n - 1) ≡ 6 ∷ 0 ∷ 6 ∷ []
-unfolding spell number sum some fold link child hasChild leaf T H greatestDelay nodeCount frameCount parentAt delayAt memoryAt rateAt frameAt perNode tab meets below leastOver floorRate sumsIn ahead mostAhead memoryBy
-fifth-memories = refl
-
-fifth-total : total (jobOf (withRates 5 10 4 4 10 1) .tree) (memoriesIn (6 ∷ 0 ∷ 6 ∷ [])) ≡ 12
-unfolding spell number sum some fold link child hasChild leaf T H greatestDelay nodeCount frameCount parentAt delayAt memoryAt rateAt frameAt perNode sumOver total
-fifth-total = refl
-
--- sixth
-
-sixth-read : refusal (oneLeaf 4097 1) ≡ 0
-unfolding spell number sum some link child hasChild leaf mark version nodeCount frameCount parentAt delayAt memoryAt rateAt frameAt wantedLength perNode refusal
-sixth-read = refl
-
-sixth-rate : leastRate (jobOf (oneLeaf 4097 1) .tree) ≡ 1
-unfolding spell number sum some fold link child hasChild leaf T H greatestDelay nodeCount frameCount parentAt delayAt memoryAt rateAt frameAt perNode meets below leastOver leastRate inTime
-sixth-rate = refl
-
-sixth-film : T (jobOf (oneLeaf 4097 1)) 1 ≡ 4097
-unfolding spell number sum some fold link child hasChild leaf T H greatestDelay nodeCount frameCount parentAt delayAt memoryAt rateAt frameAt perNode
-sixth-film = refl
-
-sixth-in-time : inTime (leastRate (jobOf (oneLeaf 4097 1) .tree)) (jobOf (oneLeaf 4097 1) .M) (T (jobOf (oneLeaf 4097 1))) 4096 ≡ true
-unfolding spell number sum some fold link child hasChild leaf T H greatestDelay nodeCount frameCount parentAt delayAt memoryAt rateAt frameAt perNode meets below leastOver leastRate inTime
-sixth-in-time = refl
-
-sixth-frames : jobOf (oneLeaf 4097 1) .M ≡ 1
-unfolding spell number sum some fold link child hasChild leaf T H greatestDelay nodeCount frameCount parentAt delayAt memoryAt rateAt frameAt perNode
-sixth-frames = refl
-
-sixth-delay : 4096 ≡ delay (oneLeaf 4097 1) sixth-read
-sixth-delay = delay-at (oneLeaf 4097 1) sixth-read 4096 1 (omega arith) (λ h. sixth-in-time) (omega (arith, sixth-frames)) (λ y h. rw (sixth-rate, sixth-film) (omega arith))
-
-sixth-memories : tab (λ i. memoryBy (jobOf (oneLeaf 4097 1) .tree) (needsOf (jobOf (oneLeaf 4097 1) .tree) (tab (T (jobOf (oneLeaf 4097 1))) (jobOf (oneLeaf 4097 1) .M + 1))) (suc i)) (jobOf (oneLeaf 4097 1) .tree .n - 1) ≡ 4096 ∷ []
-unfolding spell number sum some fold link child hasChild leaf T H greatestDelay nodeCount frameCount parentAt delayAt memoryAt rateAt frameAt perNode tab meets below leastOver floorRate sumsIn ahead mostAhead memoryBy
-sixth-memories = refl
-
-sixth-total : total (jobOf (oneLeaf 4097 1) .tree) (memoriesIn (4096 ∷ [])) ≡ 4096
-unfolding spell number sum some fold link child hasChild leaf T H greatestDelay nodeCount frameCount parentAt delayAt memoryAt rateAt frameAt perNode sumOver total
-sixth-total = refl
-
--- eighth
-
-eighth-read : refusal (withRates 0 0 0 0 0 0) ≡ 0
-unfolding spell number sum some link child hasChild leaf mark version nodeCount frameCount parentAt delayAt memoryAt rateAt frameAt wantedLength perNode refusal
-eighth-read = refl
-
-eighth-rate : leastRate (jobOf (withRates 0 0 0 0 0 0) .tree) ≡ 0
-unfolding spell number sum some fold link child hasChild leaf T H greatestDelay nodeCount frameCount parentAt delayAt memoryAt rateAt frameAt perNode meets below leastOver leastRate inTime
-eighth-rate = refl
-
-eighth-film : T (jobOf (withRates 0 0 0 0 0 0)) 0 ≡ 0
-unfolding spell number sum some fold link child hasChild leaf T H greatestDelay nodeCount frameCount parentAt delayAt memoryAt rateAt frameAt perNode
-eighth-film = refl
-
-eighth-in-time : inTime (leastRate (jobOf (withRates 0 0 0 0 0 0) .tree)) (jobOf (withRates 0 0 0 0 0 0) .M) (T (jobOf (withRates 0 0 0 0 0 0))) 0 ≡ true
-unfolding spell number sum some fold link child hasChild leaf T H greatestDelay nodeCount frameCount parentAt delayAt memoryAt rateAt frameAt perNode meets below leastOver leastRate inTime
-eighth-in-time = refl
-
-eighth-frames : jobOf (withRates 0 0 0 0 0 0) .M ≡ 3
-unfolding spell number sum some fold link child hasChild leaf T H greatestDelay nodeCount frameCount parentAt delayAt memoryAt rateAt frameAt perNode
-eighth-frames = refl
-
-eighth-delay : 0 ≡ delay (withRates 0 0 0 0 0 0) eighth-read
-eighth-delay = delay-at (withRates 0 0 0 0 0 0) eighth-read 0 0 (omega arith) (λ h. eighth-in-time) (omega (arith, eighth-frames)) (λ y h. rw (eighth-rate, eighth-film) (omega arith))
-
-eighth-memories : tab (λ i. memoryBy (jobOf (withRates 0 0 0 0 0 0) .tree) (needsOf (jobOf (withRates 0 0 0 0 0 0) .tree) (tab (T (jobOf (withRates 0 0 0 0 0 0))) (jobOf (withRates 0 0 0 0 0 0) .M + 1))) (suc i)) (jobOf (withRates 0 0 0 0 0 0) .tree .n - 1) ≡ 0 ∷ 0 ∷ 0 ∷ []
-unfolding spell number sum some fold link child hasChild leaf T H greatestDelay nodeCount frameCount parentAt delayAt memoryAt rateAt frameAt perNode tab meets below leastOver floorRate sumsIn ahead mostAhead memoryBy
-eighth-memories = refl
-
-eighth-total : total (jobOf (withRates 0 0 0 0 0 0) .tree) (memoriesIn (0 ∷ 0 ∷ 0 ∷ [])) ≡ 0
-unfolding spell number sum some fold link child hasChild leaf T H greatestDelay nodeCount frameCount parentAt delayAt memoryAt rateAt frameAt perNode sumOver total
-eighth-total = refl
-
--- seventh
-
-seventh-read : refusal (oneLeaf 4098 1) ≡ 0
-unfolding spell number sum some link child hasChild leaf mark version nodeCount frameCount parentAt delayAt memoryAt rateAt frameAt wantedLength perNode refusal
-seventh-read = refl
-
-seventh-rate : leastRate (jobOf (oneLeaf 4098 1) .tree) ≡ 1
-unfolding spell number sum some fold link child hasChild leaf T H greatestDelay nodeCount frameCount parentAt delayAt memoryAt rateAt frameAt perNode meets below leastOver leastRate inTime
-seventh-rate = refl
-
-seventh-film : T (jobOf (oneLeaf 4098 1)) 1 ≡ 4098
-unfolding spell number sum some fold link child hasChild leaf T H greatestDelay nodeCount frameCount parentAt delayAt memoryAt rateAt frameAt perNode
-seventh-film = refl
-
-seventh-frames : jobOf (oneLeaf 4098 1) .M ≡ 1
-unfolding spell number sum some fold link child hasChild leaf T H greatestDelay nodeCount frameCount parentAt delayAt memoryAt rateAt frameAt perNode
-seventh-frames = refl
-
-seventh-delay : longestDelay + 1 ≡ delay (oneLeaf 4098 1) seventh-read
-seventh-delay = delay-at (oneLeaf 4098 1) seventh-read (longestDelay + 1) 1 (omega arith) (λ h. absurd (omega arith)) (omega (arith, seventh-frames)) (λ y h. rw (seventh-rate, seventh-film) (omega arith))
+lines-are : (lines : List Line) → passAll lines ≡ true → Holds lines
+unfolding passAll
+lines-are [] h = tt
+lines-are (line ∷ lines) h =
+    (line-is line (and-left (passes line) (passAll lines) h), lines-are lines (and-right (passes line) (passAll lines) h))
 
 -- ---- the table
 
+all-pass : passAll table ≡ true
+unfolding spell number sum some fold link child hasChild leaf mark version nodeCount frameCount parentAt delayAt memoryAt rateAt frameAt
+    wantedLength perNode refusal T H greatestDelay meets below leastOver D leafBelow lowerIn lowerCurve roomIn room leastUp upperCurve
+    starving greatest tab rowsOf put unlessRoot turnUp turnDown passUp passDown close «open» ceilDiv leastPeak lazyBefore lazy lower upper
+    linkPeak lazyPlan plan low high peak leastRate inTime floorRate sumsIn ahead mostAhead memoryBy sumOver total same sameRows peaksIn
+    memoriesOf onTime refusedSo plannedSo sizedSo memoryTest rateTest passes passAll
+all-pass = refl
+
 pub starred : Holds table
-starred = (
-  planned (withMemories 0 0 6 6) first-read first-fed 3 15 _ _ first-last first-film first-plan first-peaks,
-  (
-    planned (withMemories 0 6 0 6) second-read second-fed 3 15 _ _ second-last second-film second-plan second-peaks,
-    (
-      planned (withMemories 1 4 0 6) third-read third-fed 4 15 _ _ third-last third-film third-plan third-peaks,
-      (
-        starved (withMemories 1 4 0 5) fourth-read fourth-starves,
-        (
-          sized (withRates 5 10 4 4 10 1) fifth-read 2 12 _ (omega arith) fifth-delay fifth-memories fifth-total,
-          (
-            sized (oneLeaf 4097 1) sixth-read 4096 4096 _ (omega arith) sixth-delay sixth-memories sixth-total,
-            (
-              none-in-time (oneLeaf 4098 1) seventh-read (omega (arith, seventh-delay)),
-              (sized (withRates 0 0 0 0 0 0) eighth-read 0 0 _ (omega arith) eighth-delay eighth-memories eighth-total, tt),
-            ),
-          ),
-        ),
-      ),
-    ),
-  ),
-)
+starred = lines-are table all-pass

@@ -1,7 +1,7 @@
 -- The rate question of document 01 is the theory's: the same floor rates, needs, memories and totals.
 use mathlib.Core.Bool.{Bool, true, _||_}
-use mathlib.Core.Path.{_≡_, refl, ap, sym, fun-ext, _∙_}
-use Prim.Native.Nat.{ℕ, zero, suc, _+_, _-_, _*_, _≤_, _<_}
+use mathlib.Core.Path.{_≡_, refl, ap, sym, fun-ext}
+use Prim.Native.Nat.{ℕ, zero, suc, _+_, _≤_, _<_}
 use native.Mathlib.Omega.{arith}
 use native.Mathlib.Nat.{mul-le-mul-right}
 use lib.Dec.{eqb, ltb}
@@ -12,15 +12,17 @@ use Rattle.base.proofs.RangeLaws.{some-cong, some-passes, leastOver-below, leas
 use Rattle.job.specs.Tree.{Tree, TreeWithin, link, child, hasChild, leaf, meets, below}
 use Rattle.job.proofs.TreeLaws.{link-is, link-in}
 use Rattle.smoothing.specs.Tree as theory
-use Rattle.smoothing.specs.Tree.{Link, metUp, within}
+use Rattle.smoothing.specs.Tree.{metUp, within}
 use Rattle.smoothing.specs.Row.{greatestExcess, lazy}
 use Rattle.smoothing.specs.Rates as theory-rates
 use Rattle.smoothing.specs.Rates.{RateQuestion, WellFormedRates, FastEnough}
 use Rattle.smoothing.proofs.RowLaws.{greatestExcess-above, greatestExcess-least}
-use Rattle.curves.specs.Curves.{Film, lazySchedule}
+use Rattle.curves.specs.Curves.{lazySchedule}
+use Rattle.job.specs.Sums.{Film}
 use Rattle.curves.proofs.CurveEq.{lazy-is}
-use Rattle.rates.specs.Rates.{atOrBelow, total, totalFrom, floorRate, leastRate, inTime, D, need, memory}
-use Rattle.rates.proofs.DelayLaws.{in-time-each, each-in-time}
+use Rattle.rates.specs.Rates.{atOrBelow, total, totalFrom, floorRate, leastRate, D, need, memory}
+use Rattle.pacing.specs.Pace.{inTime}
+use Rattle.pacing.proofs.DelayLaws.{in-time-each, each-in-time}
 
 -- ---- the same test, the same least and the same sum
 
@@ -80,7 +82,8 @@ module _ (t : Tree) where
     unfolding floorRate theory-rates.floorRate
     floor-is i = leastOver-same (atOrBelow t i) (within (t .parent) i) (t .rate) (t .n) (λ x h. sym (within-is i x h))
 
-    schedule-is : (w i k : ℕ) → k ≤ M + w → lazySchedule (D t M T w) (T M) (M + w) (floorRate t i) k ≡ lazy (M + w) (theory-rates.floorRate question i) (D t M T w) k
+    schedule-is : (w i k : ℕ) → k ≤ M + w → lazySchedule (D t M T w) (T M) (M + w) (floorRate t i) k ≡ lazy (M + w)
+        (theory-rates.floorRate question i) (D t M T w) k
     schedule-is w i k h = rw (sym (floor-is i)) (lazy-is (D t M T w) (T M) (M + w) (floorRate t i) k (ap T (omega arith)) h)
 
     pub need-is : (w i : ℕ) → need t M T w i ≡ theory-rates.need question w i
@@ -91,15 +94,22 @@ module _ (t : Tree) where
         let z = lazy (M + w) (theory-rates.floorRate question i) d in
         omega (
           arith,
-          greatestExcess-least (M + w) s d (greatestExcess (M + w) z d) (λ k h. omega (arith, schedule-is w i k h, greatestExcess-above (M + w) z d k h)),
-          greatestExcess-least (M + w) z d (greatestExcess (M + w) s d) (λ k h. omega (arith, schedule-is w i k h, greatestExcess-above (M + w) s d k h)),
+          greatestExcess-least (M + w) s d (greatestExcess (M + w) z d)
+              (λ k h. omega (arith, schedule-is w i k h, greatestExcess-above (M + w) z d k h)),
+          greatestExcess-least (M + w) z d (greatestExcess (M + w) s d)
+              (λ k h. omega (arith, schedule-is w i k h, greatestExcess-above (M + w) s d k h)),
         )
 
     pub memory-is : (w i : ℕ) → i < t .n → memory t M T w i ≡ theory-rates.memory question w i
     unfolding memory theory-rates.memory
     memory-is w i h =
         let e : need t M T w ≡ theory-rates.need question w = fun-ext (need-is w) in
-        rw (e, leaf-same i h, leastOver-same (λ c. child t c i) (theory.child (t .parent) i) (theory-rates.need question w) (t .n) (λ c l. sym (child-same i c l))) refl
+        rw (
+          e,
+          leaf-same i h,
+          leastOver-same (λ c. child t c i) (theory.child (t .parent) i) (theory-rates.need question w) (t .n)
+              (λ c l. sym (child-same i c l)),
+        ) refl
 
     module _ (tree : TreeWithin t) (film : Film T (T M)) where
       pub good : WellFormedRates question

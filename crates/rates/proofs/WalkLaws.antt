@@ -1,5 +1,5 @@
 -- What walks over sets of nodes find: floor rates, the least rate of all, the least need of a node's children.
-use mathlib.Core.Bool.{Bool, true, false, not, _&&_, _||_}
+use mathlib.Core.Bool.{Bool, true, _&&_, _||_}
 use mathlib.Core.List.{List}
 use mathlib.Core.Path.{_≡_, refl, sym, _∙_}
 use mathlib.Core.Logic.{⊎-elim}
@@ -7,15 +7,15 @@ use Prim.Native.Nat.{ℕ, zero, suc, _-_, _^_, _≤_, _<_, min}
 use native.Mathlib.Omega.{arith}
 use lib.Dec.{eqb, ltb}
 use lib.ListN.{getD}
-use borrow.Author.Tests.{lt-ltb, eq-eqb, ne-eqb, eqb-true}
+use borrow.Author.Tests.{lt-ltb, eq-eqb, eqb-true}
 use Rattle.base.specs.Range.{some, first, fold, leastOver}
 use Rattle.base.specs.Set.{has, wordBits}
-use Rattle.base.proofs.BoolLaws.{true-or-false, not-both, and-left, or-right, or-cases, iff-same, otherwise, cond-both, lt-or-le}
+use Rattle.base.proofs.BoolLaws.{and-left, or-right, or-cases, iff-same, otherwise, cond-both}
 use Rattle.base.proofs.RangeLaws.{some-passes, all-fail, fold-cong, fold-skip, fold-least}
 use Rattle.base.proofs.SetLaws.{has-none, first-in}
 use Rattle.job.specs.Limits.{greatestRate, greatestTotal}
 use Rattle.job.specs.Tree.{Tree, TreeWithin, link, child, hasChild, leaf, below}
-use Rattle.job.proofs.TreeLaws.{link-is, link-in, link-past, child-in, below-in, below-root}
+use Rattle.job.proofs.TreeLaws.{link-is, link-in, child-in, below-in, below-root}
 use Rattle.rates.specs.Rates.{atOrBelow, floorRate, leastRate}
 use Rattle.rates.specs.Work.{Needs, memoryBy}
 
@@ -62,12 +62,14 @@ module _ (t : Tree) (tree : TreeWithin t) where
     pub floor-walk : fold (λ g k. min g (t .rate k)) greatestRate (has set) wordBits ≡ floorRate t i
     unfolding floorRate
     floor-walk =
-        walk-nodes (λ g k. min g (t .rate k)) greatestRate (t .n) set (atOrBelow t i) (tree .nodes-to) is-at-or-below (λ k e. linked k e .1)
+        walk-nodes (λ g k. min g (t .rate k)) greatestRate (t .n) set (atOrBelow t i) (tree .nodes-to) is-at-or-below
+        (λ k e. linked k e .1)
         ∙ fold-least (atOrBelow t i) (t .rate) greatestRate (t .n)
         (some-passes (atOrBelow t i) (t .n) i (link-in (t .n) i is-link .1) (rw (eq-eqb i i refl) refl))
         (λ k l e. tree .rates k (link-is (t .n) k (linked k e .0) l))
 
-  pub least-walk : (set : ℕ) → ((k : ℕ) → has set k ≡ below t k 0) → fold (λ g k. min g (t .rate k)) greatestRate (has set) wordBits ≡ leastRate t
+  pub least-walk : (set : ℕ) → ((k : ℕ) → has set k ≡ below t k 0) → fold (λ g k. min g (t .rate k)) greatestRate
+      (has set) wordBits ≡ leastRate t
   unfolding leastRate
   least-walk set is =
       let every : (k : ℕ) → below t k 0 ≡ link (t .n) k =
@@ -75,7 +77,8 @@ module _ (t : Tree) (tree : TreeWithin t) where
       (λ e. let (a, b) = below-in t k 0 e in link-is (t .n) k a b)
       (λ e. let (a, b) = link-in (t .n) k e in below-root t (tree .parents) k a b) in
       let one : 1 < t .n = omega (arith, tree .nodes-from) in
-      walk-nodes (λ g k. min g (t .rate k)) greatestRate (t .n) set (link (t .n)) (tree .nodes-to) (λ k. is k ∙ every k) (λ k e. link-in (t .n) k e .1)
+      walk-nodes (λ g k. min g (t .rate k)) greatestRate (t .n) set (link (t .n)) (tree .nodes-to) (λ k. is k ∙ every k)
+      (λ k e. link-in (t .n) k e .1)
       ∙ fold-least (link (t .n)) (t .rate) greatestRate (t .n)
       (some-passes (link (t .n)) (t .n) 1 one (link-is (t .n) 1 (omega arith) one))
       (λ k l e. tree .rates k e)
@@ -100,8 +103,10 @@ module _ (t : Tree) (tree : TreeWithin t) where
         let c = first (has set) wordBits in
         let kid : child t c i ≡ true = sym (is c) ∙ first-in set fits p in
         let any : some (λ c. child t c i) (t .n) ≡ true = some-passes (λ c. child t c i) (t .n) c (child-in t c i kid .1) kid in
-        let least : fold (λ g c. min g (getD needs c 0)) (getD needs i 0) (has set) wordBits ≡ leastOver (λ c. child t c i) (λ c. getD needs c 0) (t .n) =
-        walk-nodes (λ g c. min g (getD needs c 0)) (getD needs i 0) (t .n) set (λ c. child t c i) (tree .nodes-to) is (λ k e. child-in t k i e .1)
+        let least : fold (λ g c. min g (getD needs c 0)) (getD needs i 0) (has set) wordBits ≡ leastOver (λ c. child t c i)
+        (λ c. getD needs c 0) (t .n) =
+        walk-nodes (λ g c. min g (getD needs c 0)) (getD needs i 0) (t .n) set (λ c. child t c i) (tree .nodes-to) is
+        (λ k e. child-in t k i e .1)
         ∙ fold-least (λ c. child t c i) (λ c. getD needs c 0) (getD needs i 0) (t .n) any
         (λ k l e. right .falling k i (link-in (t .n) i is-link .0) e) in
         rw (least, lt-ltb i (t .n) (link-in (t .n) i is-link .1), any) refl

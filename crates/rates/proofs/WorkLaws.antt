@@ -1,42 +1,30 @@
 -- The needs that the pass finds are document 01's, and so are the memories made of them.
-use mathlib.Core.Bool.{true}
+use mathlib.Core.Bool.{true, cond}
 use mathlib.Core.List.{List}
 use mathlib.Core.Path.{_≡_, refl, ap, sym, _∙_}
-use Prim.Native.Nat.{ℕ, suc, _+_, _-_, _≤_, _<_, min}
+use Prim.Native.Nat.{ℕ, suc, _+_, _-_, _<_, min}
 use native.Mathlib.Omega.{arith}
 use lib.ListN.{length, getD}
-use borrow.Author.Tests.{eq-eqb}
-use Rattle.base.specs.Range.{some}
 use Rattle.base.specs.Table.{tab}
-use Rattle.base.proofs.RangeLaws.{sumOver-monotone, some-passes, leastOver-below, leastOver-attained, leastOver-cong}
+use Rattle.base.proofs.RangeLaws.{sumOver-monotone, leastOver-cong}
 use Rattle.base.proofs.TableLaws.{getD-tab, tab-cong}
-use Rattle.job.specs.Limits.{mostNodes, greatestTotal, greatestRate}
-use Rattle.job.specs.Tree.{Tree, TreeWithin, link, child, leaf}
-use Rattle.job.specs.Bytes.{perNode}
-use Rattle.job.proofs.ReadLaws.{perNode-in}
+use Rattle.job.specs.Limits.{mostNodes}
+use Rattle.job.specs.Tree.{Tree, TreeWithin, link, child}
 use Rattle.job.proofs.TreeLaws.{link-is, link-in, child-in}
 use Rattle.smoothing.proofs.NeedLaws.{need-parent}
-use Rattle.curves.specs.Curves.{Film, sumsIn, lastIn, HoldsSums}
-use Rattle.curves.proofs.SumsLaws.{film-of, sum-fits}
+use Rattle.job.specs.Sums.{Film, sumsIn, lastIn, HoldsSums}
+use Rattle.job.proofs.SumsLaws.{film-of, sum-fits}
 use Rattle.writing.specs.PutBack.{memoriesIn}
-use Rattle.rates.specs.Rates.{atOrBelow, total, floorRate, leastRate, need, memory}
-use Rattle.rates.specs.Work.{needOf, needsOf, Needs, memoryBy}
+use Rattle.rates.specs.Rates.{total, floorRate, leastRate, need, memory}
+use Rattle.pacing.specs.Pace.{needOf, needsAt}
+use Rattle.pacing.proofs.LeadLaws.{most-under}
+use Rattle.rates.specs.Work.{floorsOf, Needs, memoryBy}
 use Rattle.rates.proofs.TheoryLaws.{question, good, need-is}
-use Rattle.rates.proofs.NeedLaws.{most-under, need-ahead}
+use Rattle.rates.proofs.NeedLaws.{need-ahead}
 
--- the least rate is one of the rates
-pub least-rate-fits : (t : Tree) → TreeWithin t → leastRate t ≤ greatestRate
-unfolding leastRate
-least-rate-fits t tree =
-    let one : 1 < t .n = omega (arith, tree .nodes-from) in
-    let (v, l, e, q) = leastOver-attained (link (t .n)) (t .rate) (t .n) (some-passes (link (t .n)) (t .n) 1 one (link-is (t .n) 1 (omega arith) one)) in
-    omega (arith, q, tree .rates v e)
-
--- and a floor rate is no more than the node's own
-pub floor-rate-fits : (t : Tree) → TreeWithin t → (i : ℕ) → link (t .n) i ≡ true → floorRate t i ≤ greatestRate
-unfolding floorRate
-floor-rate-fits t tree i h =
-    omega (arith, leastOver-below (atOrBelow t i) (t .rate) (t .n) i (link-in (t .n) i h .1) (rw (eq-eqb i i refl) refl), tree .rates i h)
+-- the need of each node at its place, from the sums T(0) to T(M)
+abbrev pub needsOf : Tree → List ℕ → List ℕ
+needsOf t sums = needsAt sums (floorsOf t)
 
 -- the memory of node i in the list of all
 pub memory-at : (f : ℕ → ℕ) (n : ℕ) (l : List ℕ) → l ≡ tab (λ i. f (suc i)) (n - 1) → (i : ℕ) → 0 < i → i < n → memoriesIn l i ≡ f i
@@ -59,10 +47,12 @@ module _ (t : Tree) (tree : TreeWithin t) (sums : List ℕ) (holds : HoldsSums s
   pub need-at : (w i : ℕ) → link (t .n) i ≡ true → getD (needsOf t sums) i 0 ≡ need t M (sumsIn sums) w i
   need-at w i h =
       let (p, q) = link-in (t .n) i h in
-      let f : ℕ → ℕ = λ v. needOf sums (floorRate t v) in
+      let small : i < mostNodes = omega (arith, tree .nodes-to) in
       let ends : length sums - 1 ≡ M = omega arith in
-      getD-tab (perNode (t .n) f) mostNodes i (omega (arith, tree .nodes-to))
-      ∙ perNode-in (t .n) f i p q
+      let own : getD (floorsOf t) i 0 ≡ floorRate t i =
+      getD-tab (λ k. cond (link (t .n) k) (floorRate t k) (leastRate t)) mostNodes i small ∙ rw h refl in
+      getD-tab (λ k. needOf sums (getD (floorsOf t) k 0)) mostNodes i small
+      ∙ ap (needOf sums) own
       ∙ rw ends (sym (need-ahead t M (sumsIn sums) tree film w i))
 
   pub needs-right : Needs t (needsOf t sums)
@@ -102,12 +92,14 @@ module _ (t : Tree) (tree : TreeWithin t) (sums : List ℕ) (holds : HoldsSums s
             (λ c l e. let (a, b, q) = child-in t c i e in need-at w c (link-is (t .n) c a b)),
       ) refl
 
-  pub memories-by : (w : ℕ) → tab (λ i. memoryBy t (needsOf t sums) (suc i)) (t .n - 1) ≡ tab (λ i. memory t M (sumsIn sums) w (suc i)) (t .n - 1)
+  pub memories-by : (w : ℕ) → tab (λ i. memoryBy t (needsOf t sums) (suc i)) (t .n - 1) ≡ tab (λ i. memory t M (sumsIn sums) w (suc i))
+      (t .n - 1)
   memories-by w =
       tab-cong (λ i. memoryBy t (needsOf t sums) (suc i)) (λ i. memory t M (sumsIn sums) w (suc i)) (t .n - 1)
       (λ i h. memory-by w (suc i) (link-is (t .n) (suc i) (omega arith) (omega arith)))
 
-  pub total-by : (l : List ℕ) → l ≡ tab (λ i. memoryBy t (needsOf t sums) (suc i)) (t .n - 1) → total t (memoryBy t (needsOf t sums)) ≡ total t (memoriesIn l)
+  pub total-by : (l : List ℕ) → l ≡ tab (λ i. memoryBy t (needsOf t sums) (suc i)) (t .n - 1)
+      → total t (memoryBy t (needsOf t sums)) ≡ total t (memoriesIn l)
   unfolding total
   total-by l e =
       let same : (i : ℕ) → link (t .n) i ≡ true → memoriesIn l i ≡ memoryBy t (needsOf t sums) i =

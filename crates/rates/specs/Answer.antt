@@ -10,7 +10,7 @@ use Rattle.base.specs.Table.{tab}
 use Rattle.job.specs.Limits.{longestDelay}
 use Rattle.job.specs.Tree.{link, T, planLength}
 use Rattle.job.specs.Bytes.{jobOf}
-use Rattle.job.specs.Refusal.{refusal}
+use Rattle.job.specs.Refusal.{badLent, refusal}
 use Rattle.planner.specs.Answer as planner
 use Rattle.planner.specs.Answer.{Answers}
 use Rattle.planner.specs.declared.Answer.{Answer}
@@ -32,13 +32,17 @@ abbrev pub totalOf : Sizing → ℕ
 totalOf (Refused e) = 0
 totalOf (Sized w all) = all
 
+-- the number where no delay up to the longest serves
+abbrev pub noDelay : ℕ
+noDelay = 13
+
 -- the first of refusals 1 to 11 that applies, with this many memories lent; 0 where none does
 unfoldable pub earlyRefusal : List ℕ → ℕ → ℕ
-earlyRefusal s lent = cond (eqb (refusal s) 0) (cond (eqb lent (jobOf s .tree .n - 1)) 0 11) (refusal s)
+earlyRefusal s lent = cond (eqb (refusal s) 0) (cond (eqb lent (jobOf s .tree .n - 1)) 0 badLent) (refusal s)
 
 -- demand 3 of the delay w and the memories b for the job s: w serves with b; it is the least delay that serves with any memories; of all
--- memories with which w serves none have a lower total, nor a lower total of any node and those below it; and put back, the memory question,
--- lent outputs of the right length, answers 0 and no peak passes its link's rate
+-- memories with which w serves none have a lower total, nor a lower total of any node and those below it; and put back, the memory
+-- question, lent outputs of the right length, answers 0 and no peak passes its link's rate
 pub record Least (s : List ℕ) (w : ℕ) (b : ℕ → ℕ) : Type 0 where
   pub serves : Serves (jobOf s) w b
   pub least-delay : (w′ : ℕ) (b′ : ℕ → ℕ) → Serves (jobOf s) w′ b′ → w ≤ w′
@@ -59,7 +63,7 @@ Sizes (Refused e) s memories₀ memories₁ =
     let early = earlyRefusal s (length memories₀) in
     (memories₁ ≡ memories₀)
     × (((e ≡ early) × (early ≡ 0 → ⊥))
-    ⊎ ((early ≡ 0) × ((e ≡ 13) × ((w : ℕ) (b : ℕ → ℕ) → w ≤ longestDelay → Serves (jobOf s) w b → ⊥))))
+    ⊎ ((early ≡ 0) × ((e ≡ noDelay) × ((w : ℕ) (b : ℕ → ℕ) → w ≤ longestDelay → Serves (jobOf s) w b → ⊥))))
 Sizes (Sized w all) s memories₀ memories₁ =
     let j = jobOf s in
     (earlyRefusal s (length memories₀) ≡ 0)

@@ -1,15 +1,15 @@
 -- Document 01, 'Rate question' and the words of demand 3: floor rate, w, need, memories, and a delay that serves with a set of memories.
 -- A set of memories gives each node 1 to n-1 any whole number.
-use mathlib.Core.Bool.{Bool, true, cond, not, _||_}
+use mathlib.Core.Bool.{Bool, true, cond, _||_}
 use mathlib.Core.Path.{_≡_}
-use Prim.Native.Nat.{ℕ, suc, _+_, _-_, _*_, _≤_}
-use lib.Dec.{eqb, ltb}
-use Rattle.base.specs.Range.{sumOver, some, first, leastOver}
-use Rattle.job.specs.Limits.{longestDelay}
+use Prim.Native.Nat.{ℕ, _+_, _-_, _≤_}
+use lib.Dec.{eqb}
+use Rattle.base.specs.Range.{sumOver, leastOver}
 use Rattle.job.specs.Tree.{Tree, JobData, link, child, leaf, below, H}
 use Rattle.smoothing.specs.Row.{peak, greatestExcess}
 use Rattle.curves.specs.Curves.{lazySchedule}
 use Rattle.planner.specs.Rules.{Keeps}
+use Rattle.pacing.specs.Pace.{delayAt}
 use Rattle.writing.specs.PutBack.{answeredJob}
 
 -- ---- what a delay and memories are worth
@@ -42,15 +42,11 @@ floorRate t i = leastOver (atOrBelow t i) (t .rate) (t .n)
 unfoldable pub leastRate : Tree → ℕ
 leastRate t = leastOver (link (t .n)) (t .rate) (t .n)
 
--- a delay w is in time at rate r: T(m) ≤ r × (m + w) for each m from 0 to M
-unfoldable pub inTime : ℕ → ℕ → (ℕ → ℕ) → ℕ → Bool
-inTime r M T w = not (some (λ m. ltb (r * (m + w)) (T m)) (M + 1))
-
 -- of a film of M frames: T m is T(m)
 module _ (t : Tree) (M : ℕ) (T : ℕ → ℕ) where
   -- w: the least delay that is in time at the least rate of all; one more than the longest delay where none up to that is
   unfoldable pub startDelay : ℕ
-  startDelay = first (inTime (leastRate t) M T) (longestDelay + 1)
+  startDelay = delayAt (leastRate t) M T
 
   -- all leaves share the delay w, so one D is that of every node
   abbrev pub D : ℕ → ℕ → ℕ

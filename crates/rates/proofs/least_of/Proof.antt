@@ -2,15 +2,8 @@ use borrow.Author.Needs.{needs}
 use native.Mathlib.Omega.{arith}
 use Rattle.rates.proofs.least_of.Statement.{statement}
 use Rattle.rates.proofs.least_of.Tie as tie
-use Rattle.rates.proofs.least_of.Reads as reads
-use Rattle.rates.proofs.least_of.Lts as lts
-use Rattle.base.proofs.lowest.Reads as lowest-reads
-use Rattle.base.proofs.without_lowest.Reads as without-lowest-reads
-use Rattle.rates.proofs.lesser.Reads as lesser-reads
-use Prim.Native.Nat.{_<_, min}
+use Prim.Native.Nat.{min}
 use lib.ListN.{getD}
-use Rattle.base.specs.Set.{has, wordBits}
-use Rattle.base.specs.Range.{first}
 use Rattle.base.proofs.SetLaws.{first-lt}
 use Rattle.base.proofs.WalkLaws.{Walked, walk-start, walk-next, walk-done}
 
@@ -26,14 +19,18 @@ loop-holds c = walk-start _ _ _ (omega arith)
 lowest-requires : tie.Need-lowest-requires Inv-loop μ-loop
 lowest-requires c κs = search needs
 
-mul-lesser : tie.Need-mul-lesser Inv-loop μ-loop
-mul-lesser c = omega (arith, first-lt (c .before .before .loop .rest) (c .before .before .loop .inv .fits) (omega arith), c .lowest .ensures)
+mul-min : tie.Need-mul-min Inv-loop μ-loop
+mul-min c = omega (arith, first-lt (c .before .before .loop .rest) (c .before .before .loop .inv .fits) (omega arith), c .lowest .ensures)
 
-element-copy-out-lesser : tie.Need-element-copy-out-lesser Inv-loop μ-loop
-element-copy-out-lesser c = omega (arith, first-lt (c .before .before .loop .rest) (c .before .before .loop .inv .fits) (omega arith), c .lowest .ensures)
+element-copy-out-min : tie.Need-element-copy-out-min Inv-loop μ-loop
+element-copy-out-min c = omega (
+  arith,
+  first-lt (c .before .before .loop .rest) (c .before .before .loop .inv .fits) (omega arith),
+  c .lowest .ensures,
+)
 
-lesser-requires : tie.Need-lesser-requires Inv-loop μ-loop
-lesser-requires c κs = search needs
+min-requires : tie.Need-min-requires Inv-loop μ-loop
+min-requires c κs = search needs
 
 without-lowest-requires : tie.Need-without-lowest-requires Inv-loop μ-loop
 without-lowest-requires c κs = search needs
@@ -44,8 +41,9 @@ loop-less c = omega (arith, c .without-lowest .ensures .1)
 loop-again : tie.Need-loop-again Inv-loop μ-loop
 loop-again c =
     let s = c .before .before .before .before .before .loop in
-    rw (c .before .lesser .ensures, c .before .before .before .lowest .ensures)
-    (walk-next _ _ _ (s .rest) (c .without-lowest .result) (s .acc) (s .inv) (omega arith) (c .without-lowest .ensures .1) (c .without-lowest .ensures .0))
+    rw (c .before .min .ensures, c .before .before .before .lowest .ensures)
+    (walk-next _ _ _ (s .rest) (c .without-lowest .result) (s .acc) (s .inv) (omega arith) (c .without-lowest .ensures .1)
+    (c .without-lowest .ensures .0))
 
 returns : tie.Need-returns Inv-loop μ-loop
 returns c = walk-done _ _ _ _ (rw (c .loop-test .left) at (c .before .loop .inv))
@@ -58,9 +56,9 @@ least-of-spec =
     μ-loop
     loop-holds
     lowest-requires
-    mul-lesser
-    element-copy-out-lesser
-    lesser-requires
+    mul-min
+    element-copy-out-min
+    min-requires
     without-lowest-requires
     loop-less
     loop-again

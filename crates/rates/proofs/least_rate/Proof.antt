@@ -1,11 +1,6 @@
-use native.Mathlib.Omega.{arith}
 use borrow.Author.Needs.{needs}
 use Rattle.rates.proofs.least_rate.Statement.{statement}
 use Rattle.rates.proofs.least_rate.Tie as tie
-use Rattle.rates.proofs.least_rate.Reads as reads
-use Rattle.rates.proofs.least_rate.Lts as lts
-use Rattle.job.proofs.Job.below.Reads as below-reads
-use Rattle.rates.proofs.least_of.Reads as least-of-reads
 use mathlib.Core.Path.{_∙_}
 use Rattle.job.specs.Read.{treeIn}
 use Rattle.rates.proofs.WalkLaws.{least-walk}
@@ -17,7 +12,8 @@ least-of-requires : tie.Need-least-of-requires
 least-of-requires c κs = search needs
 
 returns : tie.Need-returns
-returns c = c .least-of .ensures ∙ least-walk (treeIn (c .before .before .before .before .args .job)) (c .before .before .before .before .pre) (c .before .before .below .result) (c .before .before .below .ensures)
+returns c = c .least-of .ensures ∙ least-walk (treeIn (c .before .before .before .before .args .job))
+    (c .before .before .before .before .pre) (c .before .before .below .result) (c .before .before .below .ensures)
 
 pub least-rate-spec : {M : Type 1} → statement M
 least-rate-spec = tie.close (tie.spec below-requires least-of-requires returns)

@@ -2,11 +2,6 @@ use native.Mathlib.Omega.{arith}
 use borrow.Author.Needs.{needs}
 use Rattle.rates.proofs.memory_of.Statement.{statement}
 use Rattle.rates.proofs.memory_of.Tie as tie
-use Rattle.rates.proofs.memory_of.Reads as reads
-use Rattle.rates.proofs.memory_of.Lts as lts
-use Rattle.job.proofs.Job.children.Reads as children-reads
-use Rattle.rates.proofs.least_of.Reads as least-of-reads
-use mathlib.Core.Path.{_∙_}
 use Rattle.job.specs.Read.{treeIn}
 use Rattle.job.proofs.TreeLaws.{link-in}
 use Rattle.rates.proofs.WalkLaws.{walk-under, memory-leaf, memory-inner}
@@ -23,16 +18,27 @@ children-requires : tie.Need-children-requires
 children-requires c κs = (c .before .pre .0 .nodes-from, c .before .pre .0 .nodes-to)
 
 returns : tie.Need-returns
-returns c = memory-leaf (treeIn (c .before .before .before .args .job)) (c .before .before .before .pre .0) _ (c .before .before .before .args .i) (c .before .children .result) (c .before .before .before .pre .1 .0) (c .before .children .ensures) (omega (arith, c .if1 .taken))
+returns c = memory-leaf (treeIn (c .before .before .before .args .job)) (c .before .before .before .pre .0) _
+    (c .before .before .before .args .i) (c .before .children .result) (c .before .before .before .pre .1 .0)
+    (c .before .children .ensures) (omega (arith, c .if1 .taken))
 
 least-of-requires : tie.Need-least-of-requires
 least-of-requires c κs = search needs
 
 sub-result : tie.Need-sub-result
-sub-result c = omega (arith, c .least-of .ensures, walk-under (λ k. getD (c .before .before .before .before .args .needs .now) k 0) (getD (c .before .before .before .before .args .needs .now) (c .before .before .before .before .args .i) 0) wordBits (has (c .before .before .children .result)))
+sub-result c = omega (
+  arith,
+  c .least-of .ensures,
+  walk-under (λ k. getD (c .before .before .before .before .args .needs .now) k 0)
+      (getD (c .before .before .before .before .args .needs .now) (c .before .before .before .before .args .i) 0) wordBits
+      (has (c .before .before .children .result)),
+)
 
 returns-2 : tie.Need-returns-2
-returns-2 c = rw (c .least-of .ensures) (memory-inner (treeIn (c .before .before .before .before .args .job)) (c .before .before .before .before .pre .0) _ (c .before .before .before .before .args .i) (c .before .before .children .result) (c .before .before .before .before .pre .1 .0) (c .before .before .children .ensures) (omega arith) (omega (arith, c .before .if1 .left)) (c .before .before .before .before .pre .1 .1))
+returns-2 c = rw (c .least-of .ensures) (memory-inner (treeIn (c .before .before .before .before .args .job))
+    (c .before .before .before .before .pre .0) _ (c .before .before .before .before .args .i) (c .before .before .children .result)
+    (c .before .before .before .before .pre .1 .0) (c .before .before .children .ensures) (omega arith)
+    (omega (arith, c .before .if1 .left)) (c .before .before .before .before .pre .1 .1))
 
 pub memory-of-spec : {M : Type 1} → statement M
 memory-of-spec =

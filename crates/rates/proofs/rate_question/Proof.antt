@@ -2,10 +2,6 @@ use native.Mathlib.Omega.{arith}
 use borrow.Author.Needs.{needs}
 use Rattle.rates.proofs.rate_question.Statement.{statement}
 use Rattle.rates.proofs.rate_question.Tie as tie
-use Rattle.rates.proofs.rate_question.Reads as reads
-use Rattle.rates.proofs.rate_question.Lts as lts
-use Rattle.job.proofs.read.Reads as read-reads
-use Rattle.rates.proofs.with_job.Reads as with-job-reads
 use mathlib.Core.Path.{_≡_, refl, ap, sym, _∙_}
 use mathlib.Core.Logic.{inl}
 use Prim.Native.Nat.{_-_}
@@ -14,7 +10,8 @@ use Rattle.job.specs.Bytes.{jobOf}
 use Rattle.job.specs.Refusal.{refusal}
 use Rattle.job.specs.Tree.{Tree}
 use Rattle.job.specs.declared.Reading.{Reading}
-use Rattle.job.proofs.RefusalLaws.{Accepted, read-accepts, refusedOr-number}
+use Rattle.job.proofs.RefusalLaws.{read-accepts, refusedOr-number}
+use Rattle.job.specs.Read.{Accepted}
 use Rattle.rates.specs.Answer.{Sizes}
 use Rattle.rates.proofs.AnswerLaws.{early-read, early-lent, sized}
 
@@ -24,9 +21,11 @@ number-is c = ap (λ (r : Reading). r .refusal) (c .read .ensures) ∙ refusedOr
 
 -- past the first test the job is accepted
 accepted : (c : tie.Else1) → Accepted (c .before .before .before .before .before .args .bytes .now) (c .before .before .read .result .job)
-accepted c = read-accepts (c .before .before .before .before .before .args .bytes .now) (c .before .before .read .result) (c .before .before .read .ensures) (c .if1 .left)
+accepted c = read-accepts (c .before .before .before .before .before .args .bytes .now) (c .before .before .read .result)
+    (c .before .before .read .ensures) (c .if1 .left)
 
-links-is : (c : tie.Else1) → c .before .before .read .result .job .nodes - 1 ≡ jobOf (c .before .before .before .before .before .args .bytes .now) .tree .n - 1
+links-is : (c : tie.Else1) → c .before .before .read .result .job .nodes - 1 ≡ jobOf
+    (c .before .before .before .before .before .args .bytes .now) .tree .n - 1
 links-is c = ap (λ (t : Tree). t .n - 1) (accepted c .held)
 
 read-requires : tie.Need-read-requires
@@ -49,7 +48,8 @@ unfolding Sizes
 returns-2 c =
     let e = c .before .before .before in
     let s = c .before .before .before .before .before .before .before .before .args .bytes .now in
-    let early = early-lent s (length (c .before .before .before .before .before .before .before .before .args .memories .now)) (accepted e .none) (λ z. c .if2 .taken (z ∙ sym (links-is e))) in
+    let early = early-lent s (length (c .before .before .before .before .before .before .before .before .args .memories .now))
+    (accepted e .none) (λ z. c .if2 .taken (z ∙ sym (links-is e))) in
     (refl, inl (sym early, λ z. absurd (omega (arith, early))))
 
 with-job-requires : tie.Need-with-job-requires
@@ -62,7 +62,9 @@ returns-3 : tie.Need-returns-3
 returns-3 c =
     let st = c .before .before .before .before .before .before .before .before .before .before .before .before in
     let e = c .before .before .before .before .before .before .before in
-    sized (st .args .bytes .now) (c .before .before .before .before .before .before .before .before .before .read .result .job) (accepted e) (st .args .memories .now) _ (c .before .before .before .before .if2 .left ∙ links-is e) (c .before .before .with-job .result) (c .before .before .with-job .ensures)
+    sized (st .args .bytes .now) (c .before .before .before .before .before .before .before .before .before .read .result .job)
+    (accepted e) (st .args .memories .now) _ (c .before .before .before .before .if2 .left ∙ links-is e)
+    (c .before .before .with-job .result) (c .before .before .with-job .ensures)
 
 pub rate-question-spec : {M : Type 1} → statement M
 rate-question-spec =

@@ -2,21 +2,23 @@ use native.Mathlib.Omega.{arith}
 use borrow.Author.Needs.{needs}
 use Rattle.rates.proofs.with_sums.Statement.{statement}
 use Rattle.rates.proofs.with_sums.Tie as tie
-use mathlib.Core.Path.{_≡_, refl, ap, sym, _∙_}
-use Prim.Native.Nat.{_+_, _-_, _≤_}
+use mathlib.Core.Path.{_≡_, refl, _∙_}
+use Prim.Native.Nat.{_-_}
 use lib.ListN.{length}
 use Rattle.job.specs.Read.{treeIn}
-use Rattle.curves.specs.Curves.{sumsIn}
+use Rattle.job.specs.Sums.{sumsIn}
 use Rattle.rates.specs.Rates.{startDelay}
 use Rattle.rates.specs.Work.{Worked}
-use Rattle.rates.proofs.WorkLaws.{least-rate-fits, needs-right, memories-by, total-by}
+use Rattle.rates.proofs.FloorLaws.{least-rate-fits, floors-fit}
+use Rattle.rates.proofs.WorkLaws.{needsOf, needs-right, memories-by, total-by}
 
 -- the delay found is the defined one
-delay-is : (c : tie.After-start-delay) → let st = c .before .before .before .before .before in c .start-delay .result ≡ startDelay (treeIn (st .args .job)) (st .args .job .frames) (sumsIn (st .args .sums .now))
+delay-is : (c : tie.After-start-delay) → let st = c .before .before .before .before .before in
+    c .start-delay .result ≡ startDelay (treeIn (st .args .job)) (st .args .job .frames) (sumsIn (st .args .sums .now))
 unfolding startDelay
 delay-is c =
     let st = c .before .before .before .before .before in
-    let ends : length (st .args .sums .now) - 1 ≡ st .args .job .frames = omega (arith, st .pre .1 .1 .1 .0) in
+    let ends : length (st .args .sums .now) - 1 ≡ st .args .job .frames = omega (arith, st .pre .0 .0 .long) in
     rw (c .before .least-rate .ensures, ends) at (c .start-delay .ensures)
 
 least-rate-requires : tie.Need-least-rate-requires
@@ -25,22 +27,38 @@ least-rate-requires c κs = search needs
 start-delay-requires : tie.Need-start-delay-requires
 start-delay-requires c κs =
     let st = c .before .before .before .before in
-    (st .pre .1 .1 .0, (omega (arith, st .pre .1 .1 .1 .0, st .pre .1 .0 .0), omega (arith, c .least-rate .ensures, least-rate-fits (treeIn (st .args .job)) (st .pre .0))))
+    let with = st .pre .0 .0 in (
+      record { holds = with .film; frames-to = omega (arith, with .long, with .frames-to) },
+      omega (arith, c .least-rate .ensures, least-rate-fits (treeIn (st .args .job)) (with .tree)),
+    )
 
 returns : tie.Need-returns
 unfolding Worked
 returns c = (refl, (omega (arith, c .if1 .taken, delay-is (c .before)), refl))
 
+floor-rates-requires : tie.Need-floor-rates-requires
+floor-rates-requires c κs = search needs
+
 needs-requires : tie.Need-needs-requires
 needs-requires c κs =
-    let pre = c .before .before .before .before .before .before .before .pre in
-    (pre .0, (pre .1 .1 .0, (omega (arith, pre .1 .1 .1 .0, pre .1 .0 .0), pre .1 .0 .1)))
+    let st = c .before .before .before .before .before .before .before .before .before in
+    let with = st .pre .0 .0 in (
+      record { film = record { holds = with .film; frames-to = omega (arith, with .long, with .frames-to) }; room = st .pre .0 .1 },
+      rw (c .before .before .floor-rates .ensures) (floors-fit (treeIn (st .args .job)) (with .tree)),
+    )
+
+-- the needs that are found are those of the nodes
+needs-are : (c : tie.After-needs) → let st = c .before .before .before .before .before .before .before .before .before .before in
+    c .needs .result ≡ needsOf (treeIn (st .args .job)) (st .args .sums .now)
+needs-are c = rw (c .before .before .before .floor-rates .ensures) at (c .needs .ensures)
 
 fill-requires : tie.Need-fill-requires
 fill-requires c κs =
-    let st = c .before .before .before .before .before .before .before .before .before .before .before .before in
-    let job = st .args .job in
-    (st .pre .0, (rw (c .before .before .before .before .needs .ensures) (needs-right (treeIn job) (st .pre .0) (st .args .sums .now) (st .pre .1 .1 .0) (job .frames) (st .pre .1 .1 .1 .0)), st .pre .1 .1 .1 .1))
+    let st = c .before .before .before .before .before .before .before .before .before .before .before .before .before .before in
+    let with = st .pre .0 .0 in
+    let right = needs-right (treeIn (st .args .job)) (with .tree) (st .args .sums .now) (with .film) (st .args .job .frames)
+    (with .long) in
+    (with .tree, (rw (needs-are (c .before .before .before .before)) right, st .pre .1))
 
 same-length : tie.Need-same-length
 same-length c = search needs
@@ -51,18 +69,21 @@ same-length-2 c = search needs
 returns-2 : tie.Need-returns-2
 unfolding Worked
 returns-2 c =
-    let st = c .before .before .before .before .before .before .before .before .before .before .before .before .before .before .before in
-    let job = st .args .job in
+    let found = c .before .before .before .before .before .before .before in
+    let st = found .before .before .before .before .before .before .before .before .before .before in
+    let with = st .pre .0 .0 in
+    let t = treeIn (st .args .job) in
     let sums = st .args .sums .now in
-    let needs = c .before .before .before .before .before .before .before .needs in
-    let filled = rw (needs .ensures) at (c .before .before .fill .ensures .0) in
-    let all = rw (needs .ensures) at (c .before .before .fill .ensures .1) in (
-      omega (arith, c .before .before .before .before .before .before .before .before .before .if1 .left),
+    let M = st .args .job .frames in
+    let are = needs-are found in
+    let filled = rw are at (c .before .before .fill .ensures .0) in
+    let all = rw are at (c .before .before .fill .ensures .1) in (
+      omega (arith, found .before .before .before .before .if1 .left),
       (
-        delay-is (c .before .before .before .before .before .before .before .before .before .before),
+        delay-is (found .before .before .before .before .before),
         (
-          filled ∙ memories-by (treeIn job) (st .pre .0) sums (st .pre .1 .1 .0) (job .frames) (st .pre .1 .1 .1 .0) _,
-          all ∙ total-by (treeIn job) (st .pre .0) sums (st .pre .1 .1 .0) (job .frames) (st .pre .1 .1 .1 .0) _ filled,
+          filled ∙ memories-by t (with .tree) sums (with .film) M (with .long) _,
+          omega (arith, all ∙ total-by t (with .tree) sums (with .film) M (with .long) _ filled),
         ),
       ),
     )
@@ -74,6 +95,7 @@ with-sums-spec =
     least-rate-requires
     start-delay-requires
     returns
+    floor-rates-requires
     needs-requires
     fill-requires
     same-length

@@ -1,0 +1,48 @@
+use borrow.Author.Needs.{needs}
+use native.Mathlib.Omega.{arith}
+use Rattle.pacing.proofs.start_delay.Statement.{statement}
+use Rattle.pacing.proofs.start_delay.Tie as tie
+use Prim.Native.Nat.{_-_, _≤_}
+use lib.ListN.{length}
+use Rattle.job.specs.Sums.{sumsIn}
+use Rattle.pacing.specs.Work.{DelayBefore}
+use Rattle.pacing.proofs.DelayLaws.{delay-before-none, delay-before-all}
+
+abbrev Inv-loop : tie.InvT-loop
+Inv-loop sums r w₀ m₀ w m = (m ≤ length sums) × DelayBefore (sumsIn sums) r m w
+
+abbrev μ-loop : tie.MeasureT-loop
+μ-loop sums r w₀ m₀ w m = length sums - m
+
+loop-holds : tie.Need-loop-holds Inv-loop μ-loop
+loop-holds c = (omega arith, delay-before-none _ _ _ _ (omega arith) (omega arith))
+
+stretch-end-requires : tie.Need-stretch-end-requires Inv-loop μ-loop
+stretch-end-requires c κs = search needs
+
+delay-for-slots-requires : tie.Need-delay-for-slots-requires Inv-loop μ-loop
+delay-for-slots-requires c κs = search needs
+
+loop-less : tie.Need-loop-less Inv-loop μ-loop
+loop-less c = omega (arith, c .before .before .loop-test .taken, c .before .stretch-end .ensures)
+
+loop-again : tie.Need-loop-again Inv-loop μ-loop
+loop-again c = search needs
+
+returns : tie.Need-returns Inv-loop μ-loop
+returns c = delay-before-all _ _ _ (c .before .loop .m) _
+    (omega (arith, c .before .before .before .pre .0 .holds .some-sum, c .before .loop .inv .0, c .loop-test .left))
+    (c .before .loop .inv .1)
+
+pub start-delay-spec : {M : Type 1} → statement M
+start-delay-spec =
+    tie.close
+    (tie.spec
+    Inv-loop
+    μ-loop
+    loop-holds
+    stretch-end-requires
+    delay-for-slots-requires
+    loop-less
+    loop-again
+    returns)

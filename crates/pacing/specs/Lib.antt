@@ -1,0 +1,2 @@
+pub mod Pace
+pub mod Work

@@ -19,7 +19,7 @@ use Rattle.rates.specs.declared.Sizing.{Sizing}
 use Rattle.rates.specs.declared.Sizing.the-variants as sizing
 use Rattle.rates.proofs.AnswerLaws.{sizing-settled, memories-settled}
 use Rattle.relay.specs.Text.{line, memoryText, rateText}
-use Rattle.relay.specs.Printed.{mostBytes, mostPlanned, jobRefusal, MemoryLines, RateLine, BothAnswers, Printed}
+use Rattle.relay.specs.Printed.{tooLarge, mostBytes, mostPlanned, jobRefusal, MemoryLines, RateLine, BothAnswers, Printed}
 use Rattle.relay.specs.Room.{wordWidth, memoryRoom, rateRoom, textRoom, Taken, RateAdded}
 
 -- ---- room
@@ -45,18 +45,18 @@ nodes-end end m n w r a e f = rw (← e) (omega arith)
 alone : (s text : List ℕ) (e : ℕ) → jobRefusal s ≡ e → (e ≡ 0 → ⊥) → text ≡ line e [] → Printed s text
 alone s text e is h t = record { refused = λ _. rw is t; answered = λ z. absurd (h (sym is ∙ z)) }
 
-pub too-long : (s text : List ℕ) → mostBytes < length s → text ≡ line 15 [] → Printed s text
+pub too-long : (s text : List ℕ) → mostBytes < length s → text ≡ line tooLarge [] → Printed s text
 unfolding jobRefusal
-too-long s text h = alone s text 15 (rw (lt-ltb mostBytes (length s) h) refl) (λ z. omega (arith, z))
+too-long s text h = alone s text tooLarge (rw (lt-ltb mostBytes (length s) h) refl) (λ z. omega (arith, z))
 
 pub refused-job : (s text : List ℕ) → length s ≤ mostBytes → (refusal s ≡ 0 → ⊥) → text ≡ line (refusal s) [] → Printed s text
 unfolding jobRefusal
 refused-job s text h r = alone s text (refusal s) (rw (le-ltb mostBytes (length s) h, ne-eqb (refusal s) 0 r) refl) r
 
-pub too-large : (s text : List ℕ) → length s ≤ mostBytes → refusal s ≡ 0 → mostPlanned < planLength (jobOf s) → text ≡ line 15 [] → Printed s text
+pub too-large : (s text : List ℕ) → length s ≤ mostBytes → refusal s ≡ 0 → mostPlanned < planLength (jobOf s) → text ≡ line tooLarge [] → Printed s text
 unfolding jobRefusal
 too-large s text h r p =
-    alone s text 15 (rw (le-ltb mostBytes (length s) h, eq-eqb (refusal s) 0 r, lt-ltb mostPlanned (planLength (jobOf s)) p) refl) (λ z. omega (arith, z))
+    alone s text tooLarge (rw (le-ltb mostBytes (length s) h, eq-eqb (refusal s) 0 r, lt-ltb mostPlanned (planLength (jobOf s)) p) refl) (λ z. omega (arith, z))
 
 pub asked : (s text : List ℕ) → length s ≤ mostBytes → refusal s ≡ 0 → planLength (jobOf s) ≤ mostPlanned → BothAnswers s text → Printed s text
 unfolding jobRefusal

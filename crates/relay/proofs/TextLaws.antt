@@ -41,10 +41,6 @@ adds-part l p rest after a r t h e is =
     rw is (ap (λ (x : List ℕ). take a l ++ x) (append-assoc t rest after) ∙ sym (append-assoc (take a l) t (rest ++ after))) in
     (ap (λ (x : ℕ). a + x) e, rw split (take-at (take a l ++ t) (rest ++ after) (a + r) long))
 
--- a text at the start is the text
-pub adds-from-start : (l p : List ℕ) (r : ℕ) (t : List ℕ) → Adds l 0 t p r → take r p ≡ t
-adds-from-start l p r t f = f .1
-
 -- ---- lines
 
 pub spaced-append : (l m : List ℕ) → spaced (l ++ m) ≡ spaced l ++ spaced m

@@ -14,7 +14,11 @@ use Rattle.rates.specs.Answer.{Sizes}
 use Rattle.rates.specs.declared.Sizing.{Sizing}
 use Rattle.relay.specs.Text.{line, memoryText, rateText}
 
--- refusal 15: the most bytes of a job and the most numbers of a plan that the program takes
+-- refusal 15, the program's own: a job or a plan that is too large for it
+abbrev pub tooLarge : ℕ
+tooLarge = 15
+
+-- the most bytes of a job and the most numbers of a plan that it takes
 abbrev pub mostBytes : ℕ
 mostBytes = 32768
 
@@ -24,9 +28,9 @@ mostPlanned = 4096
 -- the number of a job that is refused before both questions: 15 for too many bytes, then 1 to 10, then 15 for too large a plan; else 0
 unfoldable pub jobRefusal : List ℕ → ℕ
 jobRefusal s =
-    cond (ltb mostBytes (length s)) 15
+    cond (ltb mostBytes (length s)) tooLarge
     (cond (eqb (refusal s) 0)
-    (cond (ltb mostPlanned (planLength (jobOf s))) 15 0)
+    (cond (ltb mostPlanned (planLength (jobOf s))) tooLarge 0)
     (refusal s))
 
 -- the lines of an answer that the memory question gives, lent outputs of the right length

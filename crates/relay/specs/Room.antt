@@ -3,6 +3,7 @@ use mathlib.Core.List.{List, _++_}
 use mathlib.Core.Path.{_≡_}
 use Prim.Native.Nat.{ℕ, _+_, _-_, _*_, _≤_}
 use lib.ListN.{length, take}
+use Rattle.job.specs.Limits.{mostNodes}
 use Rattle.job.specs.Tree.{H, planLength}
 use Rattle.job.specs.Bytes.{jobOf}
 use Rattle.relay.specs.Printed.{mostPlanned, RateLine}
@@ -16,7 +17,7 @@ wordWidth = 21
 
 -- the most links of a tree
 abbrev pub mostLinks : ℕ
-mostLinks = 63
+mostLinks = mostNodes - 1
 
 -- room for a node's line: node, peak, row
 abbrev pub nodeRoom : List ℕ → ℕ

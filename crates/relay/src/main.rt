@@ -11,16 +11,20 @@ ghost use Rattle.job.specs.Tree as tree;
 ghost use Rattle.relay.specs.Decimal.{digits, lastDigits};
 ghost use Rattle.relay.specs.Text.{spaced, line, nodeLine};
 ghost use Rattle.relay.specs.Printed.{mostBytes, mostPlanned, MemoryLines, BothAnswers, Printed};
-ghost use Rattle.relay.specs.Room.{mostDigits, wordWidth, mostLinks, nodeRoom, memoryRoom, rateRoom, textRoom, Adds, Taken, RateAdded};
+ghost use Rattle.relay.specs.Room.{mostDigits, wordWidth, mostLinks, nodeRoom, memoryRoom, rateRoom, textRoom};
+ghost use Rattle.relay.specs.Room.{Adds, Taken, RateAdded};
+use job::Job;
 use planner::Answer;
 use rates::Sizing;
 
-// Refusal 15: the most bytes of a job and the most numbers of a plan that are taken.
+// Refusal 15, and the most bytes of a job and the most numbers of a plan that are taken.
+const TOO_LARGE: u64 = 15;
+
 const MOST_BYTES: usize = 32_768;
 
 const MOST_PLANNED: usize = 4_096;
 
-const MOST_LINKS: usize = 63;
+const MOST_LINKS: usize = Job::MOST_NODES - 1;
 // Room for every text, at 21 characters for a number and a space: the first line has 3 numbers, the node lines have at most 4,096 and
 // twice 63, the last has 3 and 63.
 const TEXT_ROOM: usize = 90_111;
@@ -90,7 +94,8 @@ fn add_next(out: &mut [u8], at: usize, n: u64) -> usize
 
 fn add_row(out: &mut [u8], at: usize, row: &[u64]) -> usize
     requires { ⌜ at + wordWidth * length (now row) ≤ length (now out) ⌝ }
-    ensures { λ r. ⌜ Adds (now (out .entry)) at (spaced (now (row .entry))) (now (out .exit)) r × (r ≤ at + wordWidth * length (now (row .entry))) ⌝ }
+    ensures { λ r. ⌜ Adds (now (out .entry)) at (spaced (now (row .entry))) (now (out .exit)) r
+        × (r ≤ at + wordWidth * length (now (row .entry))) ⌝ }
 {
     let mut end = at;
     let mut k = 0;
@@ -113,7 +118,8 @@ fn add_alone(out: &mut [u8], at: usize, n: u64) -> usize
 // The line of a node: node, peak, row.
 fn add_node(out: &mut [u8], at: usize, node: u64, peak: u64, row: &[u64]) -> usize
     requires { ⌜ at + wordWidth * (2 + length (now row)) ≤ length (now out) ⌝ }
-    ensures { λ r. ⌜ Adds (now (out .entry)) at (line node (peak ∷ now (row .entry))) (now (out .exit)) r × (r ≤ at + wordWidth * (2 + length (now (row .entry)))) ⌝ }
+    ensures { λ r. ⌜ Adds (now (out .entry)) at (line node (peak ∷ now (row .entry))) (now (out .exit)) r
+        × (r ≤ at + wordWidth * (2 + length (now (row .entry)))) ⌝ }
 {
     let first = add_number(out, at, node);
     let second = add_next(out, first, peak);
@@ -124,7 +130,8 @@ fn add_node(out: &mut [u8], at: usize, node: u64, peak: u64, row: &[u64]) -> usi
 // The line of an accepted question: 0, the two numbers that it gives, and the numbers that stand in the same line.
 fn add_given(out: &mut [u8], at: usize, a: u64, b: u64, row: &[u64]) -> usize
     requires { ⌜ at + wordWidth * (3 + length (now row)) ≤ length (now out) ⌝ }
-    ensures { λ r. ⌜ Adds (now (out .entry)) at (line 0 (a ∷ (b ∷ now (row .entry)))) (now (out .exit)) r × (r ≤ at + wordWidth * (3 + length (now (row .entry)))) ⌝ }
+    ensures { λ r. ⌜ Adds (now (out .entry)) at (line 0 (a ∷ (b ∷ now (row .entry)))) (now (out .exit)) r
+        × (r ≤ at + wordWidth * (3 + length (now (row .entry)))) ⌝ }
 {
     let first = add_number(out, at, 0);
     let second = add_next(out, first, a);
@@ -136,7 +143,9 @@ fn add_given(out: &mut [u8], at: usize, a: u64, b: u64, row: &[u64]) -> usize
 // The lines of all nodes.
 fn add_nodes(bytes: &[u8], plan: &[u64], peaks: &[u64], out: &mut [u8], at: usize) -> usize
     requires { ⌜ at + length (now peaks) * nodeRoom (now bytes) ≤ length (now out) ⌝ }
-    ensures { λ r. ⌜ Adds (now (out .entry)) at (rowsOf (nodeLine (now (bytes .entry)) (now (plan .entry)) (now (peaks .entry))) (length (now (peaks .entry)))) (now (out .exit)) r ⌝ }
+    ensures { λ r. ⌜ Adds (now (out .entry)) at
+        (rowsOf (nodeLine (now (bytes .entry)) (now (plan .entry)) (now (peaks .entry))) (length (now (peaks .entry))))
+        (now (out .exit)) r ⌝ }
     ensures { λ r. ⌜ r ≤ at + length (now (peaks .entry)) * nodeRoom (now (bytes .entry)) ⌝ }
 {
     let mut end = at;
@@ -151,7 +160,8 @@ fn add_nodes(bytes: &[u8], plan: &[u64], peaks: &[u64], out: &mut [u8], at: usiz
 
 // The memory question and its lines, with outputs of the right length.
 fn memory_lines(bytes: &[u8], plan: &mut [u64], peaks: &mut [u64], out: &mut [u8]) -> usize
-    requires { ⌜ (length (now plan) ≡ tree.planLength (jobOf (now bytes))) × ((length (now peaks) ≡ jobOf (now bytes) .tree .n - 1) × (memoryRoom (now bytes) ≤ length (now out))) ⌝ }
+    requires { ⌜ (length (now plan) ≡ tree.planLength (jobOf (now bytes))) × ((length (now peaks) ≡ jobOf (now bytes) .tree .n - 1)
+        × (memoryRoom (now bytes) ≤ length (now out))) ⌝ }
     ensures { λ r. ⌜ MemoryLines (now (bytes .entry)) (take r (now (out .exit))) × (r ≤ memoryRoom (now (bytes .entry))) ⌝ }
 {
     match planner::memory_question(bytes, plan, peaks) {
@@ -221,7 +231,7 @@ fn answer(bytes: &[u8], out: &mut [u8]) -> usize
     ensures { λ r. ⌜ Counts r (now (out .exit)) ⌝ }
 {
     if MOST_BYTES < bytes.len() {
-        return add_alone(out, 0, 15);
+        return add_alone(out, 0, TOO_LARGE);
     }
     let read = job::read(bytes);
     if read.refusal != 0 {
@@ -230,7 +240,7 @@ fn answer(bytes: &[u8], out: &mut [u8]) -> usize
     let job = read.job;
     let planned = job.plan_length();
     if MOST_PLANNED < planned {
-        return add_alone(out, 0, 15);
+        return add_alone(out, 0, TOO_LARGE);
     }
     both(bytes, planned, job.nodes - 1, out)
 }

@@ -6,7 +6,7 @@ use lib.ListN.{length, getD}
 use Rattle.base.specs.Table.{tab}
 use Rattle.job.specs.Limits.{mostNodes}
 use Rattle.job.specs.declared.Limits.{Limits}
-use Rattle.job.specs.Refusal.{refusal}
+use Rattle.job.specs.Refusal.{badLent, refusal}
 use Rattle.job.specs.Steps.{orElse}
 use Rattle.planner.specs.Answer.{numberOf, lastOf, totalOf}
 use Rattle.planner.specs.declared.Answer.{Answer}
@@ -67,6 +67,7 @@ numberAt x (suc v) = getD (x .carried) v 0
 -- are those of the next tree. Lent another length, it is refused by the first of 1 to 10, else 11, and nothing lent changes.
 pub record StepSays (a : StepAnswer) (s plan tree₀ tree₁ sent₀ sent₁ held₀ held₁ : List ℕ) : Type 0 where
   pub steps : length tree₀ ≡ stateLength
-      → (o : Outcome) × (next : Running) × (Stepped o s plan (treeFrom tree₀) next sent₀ sent₁ held₀ held₁) × (tree₁ ≡ tab (numberAt next) stateLength) × (a ≡ stepNumbers o)
+      → (o : Outcome) × (next : Running) × (Stepped o s plan (treeFrom tree₀) next sent₀ sent₁ held₀ held₁)
+      × (tree₁ ≡ tab (numberAt next) stateLength) × (a ≡ stepNumbers o)
   pub refused : (length tree₀ ≡ stateLength → ⊥)
-      → (a ≡ record { number = orElse (refusal s) 11; link = 0 }) × (tree₁ ≡ tree₀) × (sent₁ ≡ sent₀) × (held₁ ≡ held₀)
+      → (a ≡ record { number = orElse (refusal s) badLent; link = 0 }) × (tree₁ ≡ tree₀) × (sent₁ ≡ sent₀) × (held₁ ≡ held₀)

@@ -1,19 +1,17 @@
 // The C interface, declared to C in include/relay.h: thin calls, each with the whole contract of the function that it calls.
 ghost use mathlib.Core.Path.{_≡_};
-ghost use mathlib.Core.Bool.{cond};
 ghost use lib.ListN.{length};
 ghost use Rattle.base.specs.Table.{tab};
 ghost use Rattle.job.specs.Steps.{orElse};
-ghost use lib.Dec.{eqb};
-ghost use Rattle.job.specs.Bytes.{jobOf};
 ghost use Rattle.job.specs.Read.{limits};
-ghost use Rattle.job.specs.Refusal.{refusal};
+ghost use Rattle.job.specs.Refusal.{badLent, refusal};
 ghost use Rattle.planner.specs.Answer.{Answers, rowPlace};
 ghost use Rattle.planner.specs.declared.Answer as planner;
 ghost use Rattle.rates.specs.Answer.{Sizes};
 ghost use Rattle.rates.specs.declared.Sizing as rates;
-ghost use Rattle.writing.specs.PutBack.{putBack, answeredJob, memoriesIn, putBackRefusal};
-ghost use Rattle.relay_c.specs.Numbers.{limitNumbers, memoryNumbers, rowNumbers, rateNumbers, stepNumbers, stateLength, treeFrom, numberAt, StepSays};
+ghost use Rattle.writing.specs.PutBack.{Puts};
+ghost use Rattle.relay_c.specs.Numbers.{limitNumbers, memoryNumbers, rowNumbers, rateNumbers, stepNumbers};
+ghost use Rattle.relay_c.specs.Numbers.{stateLength, treeFrom, numberAt, StepSays};
 use job::Job;
 use job::Limits;
 use planner::Answer;
@@ -79,7 +77,9 @@ pub extern "C" fn relay_memory_question(
     plan: &mut [u64],
     peaks: &mut [u64],
 ) -> MemoryAnswer
-    ensures { λ r. ⌜ ((a : planner.Answer) × (Answers a (now (job .entry)) (now (plan .entry)) (now (plan .exit)) (now (peaks .entry)) (now (peaks .exit)) × (r ≡ memoryNumbers a))) ⌝ }
+    ensures { λ r. ⌜ ((a : planner.Answer)
+        × (Answers a (now (job .entry)) (now (plan .entry)) (now (plan .exit)) (now (peaks .entry)) (now (peaks .exit))
+        × (r ≡ memoryNumbers a))) ⌝ }
 {
     match planner::memory_question(job, plan, peaks) {
         Answer::Refused(number) => MemoryAnswer {
@@ -125,7 +125,8 @@ pub struct RateAnswer {
 // The rate question: an answer that its contract allows, by its numbers.
 #[no_mangle]
 pub extern "C" fn relay_rate_question(job: &[u8], memories: &mut [u64]) -> RateAnswer
-    ensures { λ r. ⌜ ((a : rates.Sizing) × (Sizes a (now (job .entry)) (now (memories .entry)) (now (memories .exit)) × (r ≡ rateNumbers a))) ⌝ }
+    ensures { λ r. ⌜ ((a : rates.Sizing)
+        × (Sizes a (now (job .entry)) (now (memories .entry)) (now (memories .exit)) × (r ≡ rateNumbers a))) ⌝ }
 {
     match rates::rate_question(job, memories) {
         Sizing::Refused(number) => RateAnswer {
@@ -144,9 +145,7 @@ pub extern "C" fn relay_rate_question(job: &[u8], memories: &mut [u64]) -> RateA
 // An answer of the rate question put back into a job, with the contract of `writing::put_back`.
 #[no_mangle]
 pub extern "C" fn relay_put_back(job: &mut [u8], delay: u64, memories: &[u64]) -> u64
-    ensures { λ r. ⌜ r ≡ putBackRefusal (now (job .entry)) delay (now (memories .entry)) ⌝ }
-    ensures { λ r. ⌜ now (job .exit) ≡ cond (eqb r 0) (putBack (now (job .entry)) delay (memoriesIn (now (memories .entry)))) (now (job .entry)) ⌝ }
-    ensures { λ r. ⌜ (r ≡ 0 → (refusal (now (job .exit)) ≡ 0) × (jobOf (now (job .exit)) ≡ answeredJob (jobOf (now (job .entry))) delay (memoriesIn (now (memories .entry))))) ⌝ }
+    ensures { λ r. ⌜ Puts (now (job .entry)) delay (now (memories .entry)) r (now (job .exit)) ⌝ }
 {
     writing::put_back(job, delay, memories)
 }
@@ -165,7 +164,7 @@ fn step_answer(outcome: Outcome) -> StepAnswer
     match outcome {
         Outcome::Taken => StepAnswer { number: 0, link: 0 },
         Outcome::Done => StepAnswer {
-            number: 100,
+            number: Outcome::DONE,
             link: 0,
         },
         Outcome::Refused(number, link) => StepAnswer { number, link },
@@ -205,14 +204,14 @@ fn tree_into(tree: Running, numbers: &mut [u64])
 
 // The refusal of a step that was not lent the numbers of a running tree: 1 to 10 come before 11.
 fn no_tree(job: &[u8]) -> StepAnswer
-    ensures { λ r. ⌜ r ≡ record { number = orElse (refusal (now (job .entry))) 11; link = 0 } ⌝ }
+    ensures { λ r. ⌜ r ≡ record { number = orElse (refusal (now (job .entry))) badLent; link = 0 } ⌝ }
 {
     let number = job::refusal(job);
     if number != 0 {
         return StepAnswer { number, link: 0 };
     }
     StepAnswer {
-        number: 11,
+        number: Job::BAD_LENT,
         link: 0,
     }
 }
@@ -226,7 +225,8 @@ pub extern "C" fn relay_step(
     sent: &mut [u64],
     held: &mut [u64],
 ) -> StepAnswer
-    ensures { λ r. ⌜ StepSays r (now (job .entry)) (now (plan .entry)) (now (tree .entry)) (now (tree .exit)) (now (sent .entry)) (now (sent .exit)) (now (held .entry)) (now (held .exit)) ⌝ }
+    ensures { λ r. ⌜ StepSays r (now (job .entry)) (now (plan .entry)) (now (tree .entry)) (now (tree .exit))
+        (now (sent .entry)) (now (sent .exit)) (now (held .entry)) (now (held .exit)) ⌝ }
 {
     if tree.len() != STATE {
         return no_tree(job);

@@ -8,7 +8,8 @@ use Rattle.job.specs.Tree.{Tree, planLength}
 use Rattle.job.specs.Bytes.{frameAt, jobOf}
 use Rattle.job.specs.Refusal.{refusal}
 use Rattle.job.specs.declared.Reading.{Reading}
-use Rattle.job.proofs.RefusalLaws.{Accepted, read-accepts, refusedOr-number}
+use Rattle.job.proofs.RefusalLaws.{read-accepts, refusedOr-number}
+use Rattle.job.specs.Read.{Accepted}
 use Rattle.relay.specs.Text.{line}
 use Rattle.relay.proofs.PrintedLaws.{too-long, refused-job, too-large, asked}
 use Rattle.relay.proofs.answer.Statement.{statement}

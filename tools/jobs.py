@@ -1,5 +1,10 @@
 """A job as document 01 has it: its bytes, the table of refusals 1 to 10, and the curves. Written from the document alone, so that it
-can be held against the proved library. The commands beside it use it."""
+can be held against the proved library. The commands beside it use it, and read and write their files by it."""
+import contextlib
+import errno
+import os
+import secrets
+import stat
 import sys
 from dataclasses import dataclass
 
@@ -32,17 +37,79 @@ def read_file(name):
         raise Problem(f"{name}: {getattr(error, 'strerror', None) or error}") from None
 
 
-def write_file(name, data):
-    """Writes a file; - is standard output."""
+def write_file(name, data, inputs):
+    """Writes a file, whole or not at all; - is standard output. A file that is one of the inputs is left alone. What is no regular file,
+    or is open already and named so, as by /dev/stdout, is written to as it is."""
+    own = identity(name, 1)
+    for other in inputs:
+        if own is not None and own == identity(other, 0):
+            raise Problem(f"{name}: the same file as the input {other}, which would be lost")
     try:
         if name == "-":
-            sys.stdout.buffer.write(data)
-            sys.stdout.buffer.flush()
-            return
-        with open(name, "wb") as file:
-            file.write(data)
+            write_to(1, data, closefd=False)
+        elif is_special(name):
+            write_to(name, data)
+        else:
+            replace_file(os.path.realpath(name), data)
     except (OSError, ValueError) as error:
         raise Problem(f"{name}: {getattr(error, 'strerror', None) or error}") from None
+
+
+def identity(name, stream):
+    """The device and the inode of a regular file, else None; - is the stream of that number."""
+    try:
+        found = os.fstat(stream) if name == "-" else os.stat(name)
+    except (OSError, ValueError):
+        return None
+    return (found.st_dev, found.st_ino) if stat.S_ISREG(found.st_mode) else None
+
+
+def is_special(name):
+    """Whether there is something by that name that isn't a regular file, or a link on the way leads through /proc to an open file."""
+    if os.path.exists(name) and identity(name, 1) is None:
+        return True
+    path = os.path.abspath(name)
+    for _ in range(40):
+        folder = os.path.realpath(os.path.dirname(path))
+        if f"{folder}/".startswith("/proc/"):
+            return True
+        path = os.path.join(folder, os.path.basename(path))
+        if not os.path.islink(path):
+            break
+        path = os.path.join(folder, os.readlink(path))
+    return False
+
+
+def write_to(file, data, **other):
+    with open(file, "wb", **other) as out:
+        out.write(data)
+
+
+def replace_file(path, data):
+    """Writes a file beside the path, and then gives it the path's name. A file that was there hands on its mode and, where it can be, its
+    owner; one that may not be written to is not replaced."""
+    old = os.stat(path) if os.path.exists(path) else None
+    if old and not os.access(path, os.W_OK):
+        raise PermissionError(errno.EACCES, os.strerror(errno.EACCES))
+    folder = os.path.dirname(path)
+    new = os.path.join(folder, f".{secrets.token_hex(8)}.new")
+    try:
+        out = os.open(new, os.O_WRONLY | os.O_CREAT | os.O_EXCL, 0o666)
+    except OSError as error:
+        raise OSError(error.errno, f"no file can be made in {folder}: {error.strerror}") from None
+    try:
+        with open(out, "wb") as file:
+            file.write(data)
+            file.flush()
+            if old:
+                with contextlib.suppress(OSError):
+                    os.fchown(out, old.st_uid, old.st_gid)
+                os.fchmod(out, old.st_mode & 0o777)
+            os.fsync(out)
+        os.rename(new, path)
+    except BaseException:
+        os.unlink(new)
+        raise
 
 
 @dataclass(frozen=True)

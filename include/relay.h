@@ -46,7 +46,8 @@ extern "C" {
 /*
  * The numbers that the functions below give. 0 is an answer, or a step that was
  * taken; 1 to 14 are refusals, and where several apply the lowest is given, save by
- * relay_put_back; 100 is no refusal: there is no further step.
+ * relay_put_back, which gives one of the job as it is, 1 to 10, before 8, 9 and 11 of
+ * what is to be put into it; 100 is no refusal: there is no further step.
  */
 #define RELAY_ANSWERED 0
 #define RELAY_SHORT 1          /* fewer than 10 bytes */
@@ -191,11 +192,11 @@ struct relay_rate_answer relay_rate_question(
  * which no link's peak passes its rate.
  *
  * The number is else the first refusal that applies, of 1 to 10 above, of the bytes
- * as they are, and then these, and the bytes are as they were:
+ * as they are, and then these in turn, and the bytes are as they were:
  *
- *   11  `memories_length` is not n-1
  *    8  `delay` is above 4,096
- *    9  one of `memories` is above 1,099,511,627,775
+ *    9  one of `memories` is above 1,099,511,627,775, however many they are
+ *   11  `memories_length` is not n-1
  *
  * `job` must point to at least `job_length` writable bytes and `memories` to at
  * least `memories_length` readable numbers, and the two may not overlap. Nothing is

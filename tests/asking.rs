@@ -1,27 +1,24 @@
 //! The memory question asked of the library, held against the brute-force search
 //! and the independent planner.
 
-use std::collections::HashSet;
-use std::hash::{DefaultHasher, Hash, Hasher};
-
 use crate::answer::{peak, Answer};
-use crate::compare::Mismatch;
 use crate::job::Job;
 use crate::lending::Lent;
 use crate::library::{memory_question, MemoryAnswer};
+use crate::problem::{equal, holds, same, Problem};
 use crate::relax::{binding, Planner};
 use crate::rules::Rules;
+use crate::section::Tally;
 use crate::{brute, reader};
-
-/// The numbers of the memory question: 0, and the refusals 1 to 12.
-const NUMBERS: usize = 13;
 
 /// A job, or bytes that are none, and the lengths of the lent outputs.
 pub struct Case {
-    bytes: Vec<u8>,
+    pub bytes: Vec<u8>,
     job: Option<Job>,
-    plan: usize,
-    peaks: usize,
+    pub plan: usize,
+    pub peaks: usize,
+    /// Of a job too large for the whole search, links whose peaks are tried one lower.
+    tried: Option<usize>,
 }
 
 impl Case {
@@ -34,10 +31,8 @@ impl Case {
     /// A job with outputs of these lengths.
     pub fn lent(job: Job, plan: usize, peaks: usize) -> Self {
         Case {
-            bytes: job.encode(),
-            job: Some(job),
-            plan,
-            peaks,
+            job: Some(job.clone()),
+            ..Case::broken(job.encode(), plan, peaks)
         }
     }
 
@@ -48,6 +43,15 @@ impl Case {
             job: None,
             plan,
             peaks,
+            tried: None,
+        }
+    }
+
+    /// A job too large for the whole search.
+    pub fn large(job: Job, tried: usize) -> Self {
+        Case {
+            tried: Some(tried),
+            ..Case::job(job)
         }
     }
 }
@@ -58,168 +62,103 @@ pub fn lengths(job: &Job) -> (usize, usize) {
     (links * (Rules::new(job).last_slot() + 1), links)
 }
 
-/// What has been asked so far.
-pub struct Asked {
-    pub jobs: u64,
-    /// Jobs met for each number.
-    pub numbers: [u64; NUMBERS],
-    /// Accepted jobs in which P3 binds.
-    pub binding: u64,
-    /// Jobs searched by brute force, and how many of them have a plan.
-    pub searched: u64,
-    pub found: u64,
-    /// Numbers of the largest plan.
-    pub largest: usize,
-    seen: HashSet<u64>,
+/// Compares one case.
+pub fn check(case: &Case, tally: &mut Tally) -> Result<(), Problem> {
+    let number = match (&case.job, case.tried) {
+        (Some(job), Some(tried)) => compare_large(job, &case.bytes, tried)?,
+        _ => compare(case, tally)?,
+    };
+    tally.value("number {}", number as usize);
+    let largest = number == 0 && case.plan == 63 * 69_633;
+    tally.one_if("plans of 4,386,879 numbers", largest);
+    Ok(())
 }
 
-/// What differs, the number expected and that got.
-pub type Problem = (String, u64, u64);
-
-impl Asked {
-    pub fn new() -> Self {
-        Asked {
-            jobs: 0,
-            numbers: [0; NUMBERS],
-            binding: 0,
-            searched: 0,
-            found: 0,
-            largest: 0,
-            seen: HashSet::new(),
-        }
-    }
-
-    /// Compares one case. False where it was met before: it is then left out.
-    pub fn compare(&mut self, case: Case) -> Result<bool, Mismatch> {
-        let mut hasher = DefaultHasher::new();
-        (&case.bytes, case.plan, case.peaks).hash(&mut hasher);
-        if !self.seen.insert(hasher.finish()) {
-            return Ok(false);
-        }
-        match self.problem(&case) {
-            Ok(()) => Ok(true),
-            Err(problem) => Err(mismatch(problem, case.bytes)),
-        }
-    }
-
-    fn problem(&mut self, case: &Case) -> Result<(), Problem> {
-        let (number, answer) = self.expected(case)?;
-        for round in 0..2 {
-            let (got, plan, peaks) = ask(&case.bytes, case.plan, case.peaks, round)?;
-            equal("number", number, got.number)?;
-            equal(
-                "last slot",
-                answer.as_ref().map_or(0, |a| a.last_slot),
-                got.last_slot,
-            )?;
-            equal("total", answer.as_ref().map_or(0, |a| a.total), got.total)?;
-            let (Some(answer), Some(job)) = (&answer, &case.job) else {
-                continue;
-            };
+/// Compares a job, or bytes that are none, with the planner, and gives the number.
+fn compare(case: &Case, tally: &mut Tally) -> Result<u64, Problem> {
+    let (number, answer) = expected(case, tally)?;
+    let (last_slot, total) = answer.as_ref().map_or((0, 0), |a| (a.last_slot, a.total));
+    for round in 0..2 {
+        let (got, plan, peaks) = ask(&case.bytes, case.plan, case.peaks, round)?;
+        equal("number", number, got.number)?;
+        equal("last slot", last_slot, got.last_slot)?;
+        equal("total", total, got.total)?;
+        if let (Some(answer), Some(job)) = (&answer, &case.job) {
             filled(answer, plan.held(), peaks.held())?;
             kept(job, plan.held())?;
         }
-        self.jobs += 1;
-        self.numbers[number as usize] += 1;
-        if let (Some(answer), Some(job)) = (&answer, &case.job) {
-            self.binding += u64::from(binding(job, answer));
-            self.largest = self.largest.max(case.plan);
-        }
-        Ok(())
     }
-
-    /// The number that is due, and the answer where it is 0.
-    fn expected(&mut self, case: &Case) -> Result<(u64, Option<Answer>), Problem> {
-        let read = reader::refusal(&case.bytes);
-        let Some(job) = &case.job else {
-            assert!(read != 0, "the bytes of no job");
-            return Ok((read, None));
-        };
-        equal("number of a valid job", 0, read)?;
-        if (case.plan, case.peaks) != lengths(job) {
-            return Ok((11, None));
-        }
-        let answer = Planner::new(job).answer();
-        if brute::is_tiny(job) {
-            let searched = brute::search(job);
-            same(&searched, &answer).map_err(|(what, expected, got)| {
-                let sides = "brute force against the independent planner";
-                (format!("{sides}: {what}"), expected, got)
-            })?;
-            self.searched += 1;
-            self.found += u64::from(searched.is_some());
-        }
-        Ok(match answer {
-            Some(_) => (0, answer),
-            None => (12, None),
-        })
+    if let (Some(answer), Some(job)) = (&answer, &case.job) {
+        tally.one_if("accepted with P3 binding", binding(job, answer));
     }
-
-    /// Compares a job too large for the whole search: the answer keeps the rules,
-    /// its peaks are those of its rows, its rows are the least with those peaks,
-    /// no peak of `tried` links can be lower, and a second call says the same.
-    pub fn compare_large(&mut self, job: &Job, tried: usize) -> Result<bool, Mismatch> {
-        let bytes = job.encode();
-        self.large_problem(job, &bytes, tried)
-            .map_err(|problem| mismatch(problem, bytes))?;
-        self.jobs += 1;
-        self.numbers[0] += 1;
-        self.largest = self.largest.max(lengths(job).0);
-        Ok(true)
-    }
-
-    fn large_problem(&self, job: &Job, bytes: &[u8], tried: usize) -> Result<(), Problem> {
-        let (plan_length, links) = lengths(job);
-        let rules = Rules::new(job);
-        let (got, plan, peaks) = ask(bytes, plan_length, links, 0)?;
-        equal("number", 0, got.number)?;
-        equal("last slot", rules.last_slot() as u64, got.last_slot)?;
-        equal("total", rules.total(), got.total)?;
-        kept(job, plan.held())?;
-
-        let planner = Planner::new(job);
-        let rows: Vec<Vec<u64>> = planner
-            .least(peaks.held())
-            .ok_or(("plan with these peaks".to_string(), 1, 0))?
-            .chunks(plan_length / links)
-            .map(<[u64]>::to_vec)
-            .collect();
-        let answer = Answer {
-            last_slot: got.last_slot,
-            total: got.total,
-            peaks: rows.iter().map(|row| peak(row)).collect(),
-            rows,
-        };
-        filled(&answer, plan.held(), peaks.held())?;
-        for i in 0..tried {
-            let link = i * (links - 1) / (tried - 1).max(1);
-            let peak = answer.peaks[link];
-            if peak > 0 && planner.can(link, peak - 1) {
-                return Err((format!("peak of node {}", link + 1), peak - 1, peak));
-            }
-        }
-
-        let (again, plan, peaks) = ask(bytes, plan_length, links, 1)?;
-        equal("same numbers again", 1, u64::from(got == again))?;
-        filled(&answer, plan.held(), peaks.held())
-    }
+    Ok(number)
 }
 
-fn mismatch((what, expected, got): Problem, bytes: Vec<u8>) -> Mismatch {
-    Mismatch {
-        what: format!("memory question: {what}"),
-        expected,
-        got,
-        bytes,
+/// The number that is due, and the answer where it is 0.
+fn expected(case: &Case, tally: &mut Tally) -> Result<(u64, Option<Answer>), Problem> {
+    let read = reader::refusal(&case.bytes);
+    let Some(job) = &case.job else {
+        assert!(read != 0, "the bytes of no job");
+        return Ok((read, None));
+    };
+    equal("number of a valid job", 0, read)?;
+    if (case.plan, case.peaks) != lengths(job) {
+        return Ok((11, None));
     }
+    let answer = Planner::new(job).answer();
+    if brute::is_tiny(job) {
+        let searched = brute::search(job);
+        same_answer(&searched, &answer)
+            .map_err(|problem| format!("brute force against the independent planner: {problem}"))?;
+        tally.value("searched by brute force", 0);
+        tally.one_if("searched, with a plan", searched.is_some());
+    }
+    Ok(match answer {
+        Some(_) => (0, answer),
+        None => (12, None),
+    })
 }
 
-/// Whether `got` is what is expected.
-pub fn equal(what: &str, expected: u64, got: u64) -> Result<(), Problem> {
-    if expected == got {
-        return Ok(());
+/// Compares a job too large for the whole search, and gives its number, 0: the answer
+/// keeps the rules, its peaks are those of its rows, its rows are the least with those
+/// peaks, no peak of `tried` links can be lower, and a second call says the same.
+fn compare_large(job: &Job, bytes: &[u8], tried: usize) -> Result<u64, Problem> {
+    let (plan_length, links) = lengths(job);
+    let rules = Rules::new(job);
+    let (got, plan, peaks) = ask(bytes, plan_length, links, 0)?;
+    equal("number", 0, got.number)?;
+    equal("last slot", rules.last_slot() as u64, got.last_slot)?;
+    equal("total", rules.total(), got.total)?;
+    kept(job, plan.held())?;
+
+    let planner = Planner::new(job);
+    let rows: Vec<Vec<u64>> = planner
+        .least(peaks.held())
+        .ok_or("no plan with these peaks")?
+        .chunks(plan_length / links)
+        .map(<[u64]>::to_vec)
+        .collect();
+    let answer = Answer {
+        last_slot: got.last_slot,
+        total: got.total,
+        peaks: rows.iter().map(|row| peak(row)).collect(),
+        rows,
+    };
+    filled(&answer, plan.held(), peaks.held())?;
+    for i in 0..tried {
+        let link = i * (links - 1) / (tried - 1).max(1);
+        let peak = answer.peaks[link];
+        let lower = peak > 0 && planner.can(link, peak - 1);
+        holds(
+            &format!("peak {peak} of node {} is least", link + 1),
+            !lower,
+        )?;
     }
-    Err((what.to_string(), expected, got))
+
+    let (again, plan, peaks) = ask(bytes, plan_length, links, 1)?;
+    holds("same numbers again", got == again)?;
+    filled(&answer, plan.held(), peaks.held())?;
+    Ok(0)
 }
 
 /// Asks the library. Guards, the job's bytes and, on a refusal, the lent words
@@ -236,20 +175,21 @@ pub fn ask(
 
     let got = memory_question(job.part(), plan.part(), peaks.part());
 
-    let guards = plan.guards_kept() && peaks.guards_kept();
-    equal("guard words kept", 1, u64::from(guards))?;
-    equal("the job's bytes kept", 1, u64::from(job.untouched()))?;
+    holds(
+        "guard words kept",
+        plan.guards_kept() && peaks.guards_kept(),
+    )?;
+    holds("the job's bytes kept", job.untouched())?;
     if got.number != 0 {
         let untouched = plan.untouched() && peaks.untouched();
-        equal("lent words kept on a refusal", 1, u64::from(untouched))?;
+        holds("lent words kept on a refusal", untouched)?;
     }
     Ok((got, plan, peaks))
 }
 
 /// Whether two answers are the same.
-fn same(one: &Option<Answer>, other: &Option<Answer>) -> Result<(), Problem> {
-    let number = |answer: &Option<Answer>| if answer.is_some() { 0 } else { 12 };
-    equal("number", number(one), number(other))?;
+fn same_answer(one: &Option<Answer>, other: &Option<Answer>) -> Result<(), Problem> {
+    equal("there is a plan", one.is_some(), other.is_some())?;
     if let (Some(one), Some(other)) = (one, other) {
         equal("last slot", one.last_slot, other.last_slot)?;
         equal("total", one.total, other.total)?;
@@ -260,16 +200,11 @@ fn same(one: &Option<Answer>, other: &Option<Answer>) -> Result<(), Problem> {
 
 /// Whether the lent words hold the answer.
 fn filled(answer: &Answer, plan: &[u64], peaks: &[u64]) -> Result<(), Problem> {
+    same("peak of node", 1, &answer.peaks, peaks)?;
     let slots = answer.last_slot as usize + 1;
-    for (i, &due) in answer.peaks.iter().enumerate() {
-        equal(&format!("peak of node {}", i + 1), due, peaks[i])?;
-    }
-    for (i, row) in answer.rows.iter().enumerate() {
-        let part = &plan[i * slots..(i + 1) * slots];
-        if let Some(slot) = (0..slots).find(|&slot| row[slot] != part[slot]) {
-            let place = format!("row of node {} at slot {slot}", i + 1);
-            return Err((place, row[slot], part[slot]));
-        }
+    equal("length of the plan", answer.rows.len() * slots, plan.len())?;
+    for (node, (row, part)) in (1..).zip(answer.rows.iter().zip(plan.chunks(slots))) {
+        same(&format!("row of node {node}, slot"), 0, row, part)?;
     }
     Ok(())
 }
@@ -279,6 +214,6 @@ pub fn kept(job: &Job, plan: &[u64]) -> Result<(), Problem> {
     let slots = plan.len() / job.records.len();
     match Rules::new(job).broken(slots, |i, slot| plan[i * slots + slot]) {
         None => Ok(()),
-        Some(slot) => Err((format!("P1 to P3 at slot {slot}"), 1, 0)),
+        Some(slot) => Err(format!("P1 to P3 are broken at slot {slot}")),
     }
 }

@@ -2,8 +2,8 @@
 //! bounds are written out, so that the named ones are tested too.
 
 use crate::asking;
-use crate::compare::Case;
 use crate::job::{Job, Record};
+use crate::reading::Case;
 use crate::relax::Planner;
 use crate::rng::Rng;
 use crate::shapes::{valid, Shape, SHAPES};

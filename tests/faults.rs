@@ -35,6 +35,15 @@ pub fn with_faults(job: Job, numbers: &[u64], rng: &mut Rng) -> Vec<u8> {
     bytes
 }
 
+/// The number of a fault and, at times, that of another after it.
+pub fn one_or_two(first: u64, rng: &mut Rng) -> Vec<u64> {
+    let mut numbers = vec![first];
+    if first < 10 && rng.one_in(2) {
+        numbers.push(rng.within(first + 1..=10));
+    }
+    numbers
+}
+
 /// The first, the middle, the last or any place of `length`.
 fn place(length: usize, rng: &mut Rng) -> usize {
     let any = rng.index(length);

@@ -1,7 +1,7 @@
 //! Random bytes, with more and more of a job's form.
 
-use crate::compare::Case;
 use crate::job::{FRAME_BYTES, HEADER_BYTES, MOST_NODES, RECORD_BYTES};
+use crate::reading::Case;
 use crate::rng::Rng;
 
 /// Up to 12 bytes, at times with the first bytes of a job.

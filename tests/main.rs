@@ -9,7 +9,6 @@ mod answer;
 mod arguments;
 mod asking;
 mod brute;
-mod compare;
 mod edges;
 mod faults;
 mod garbage;
@@ -19,6 +18,7 @@ mod lending;
 #[allow(unsafe_code)]
 mod library;
 mod planning;
+mod problem;
 mod program;
 mod putting;
 mod rated;
@@ -40,24 +40,28 @@ mod writer;
 
 use std::process::ExitCode;
 
-use section::Outcome;
+use section::{Outcome, Section};
 
-/// A section: its random cases in the gate, and how it is run with so many and a seed.
-type Section = (u64, fn(u64, u64) -> Outcome);
+/// A section: its random cases in the gate, its first stream of random numbers, and how
+/// it is run with so many cases and a seed.
+type Entry = (u64, u64, fn(u64, u64) -> Outcome);
 
-const SECTIONS: [Section; 7] = [
-    (reading::GATE, reading::run),
-    (planning::GATE, planning::run),
-    (running::GATE, running::run),
-    (rating::GATE, rating::run),
-    (putting::GATE, putting::run),
-    (rowing::GATE, rowing::run),
-    (program::GATE, program::run),
+const fn entry<S: Section>() -> Entry {
+    (S::GATE, S::STREAM, section::run::<S>)
+}
+
+const SECTIONS: [Entry; 7] = [
+    entry::<reading::Reading>(),
+    entry::<planning::Planning>(),
+    entry::<running::Steps>(),
+    entry::<rating::Rating>(),
+    entry::<putting::Putting>(),
+    entry::<rowing::Rows>(),
+    entry::<program::Program>(),
 ];
 
 fn main() -> ExitCode {
-    let gate = SECTIONS.map(|(gate, _)| gate);
-    section::check();
+    let gate = SECTIONS.map(|(gate, ..)| gate);
     arguments::check(gate);
     let texts: Vec<String> = std::env::args().skip(1).collect();
     let words: Vec<&str> = texts.iter().map(String::as_str).collect();
@@ -66,10 +70,11 @@ fn main() -> ExitCode {
         eprintln!("JOBS is the number of random cases of all sorts; 0x may go before digits");
         return ExitCode::from(2);
     };
+    section::check(SECTIONS.map(|(_, stream, _)| stream));
     let end = ["between guards", "to the end of its allocation"][usize::from(lending::tight())];
     println!("random cases asked for {jobs}, seed {seed:#018x}; lent memory: {end}");
     let (mut passed, mut failed) = (0, 0);
-    for ((_, run), random) in SECTIONS.into_iter().zip(arguments::amounts(jobs, gate)) {
+    for ((.., run), random) in SECTIONS.into_iter().zip(arguments::amounts(jobs, gate)) {
         let outcome = run(random, seed);
         passed += outcome.passed;
         failed += u64::from(!outcome.well);

@@ -1,8 +1,7 @@
 //! The program: what it prints for a job on its standard input, against the text
 //! that the independent reader, planner and sizes make.
 
-use std::collections::HashSet;
-use std::fmt::Write as _;
+use std::hash::Hash;
 use std::io::{self, Read as _, Write as _};
 use std::path::Path;
 use std::process::{Child, ChildStdin, Command, ExitStatus, Stdio};
@@ -12,13 +11,15 @@ use std::thread::{self, sleep};
 use std::time::Duration;
 
 use crate::asking::lengths;
-use crate::compare::hash;
 use crate::edges::{example_jobs, TREE_Q};
-use crate::faults::with_faults;
+use crate::faults::{one_or_two, with_faults};
 use crate::job::{Job, FRAME_BYTES, GREATEST_DELAY, HEADER_BYTES, MOST_FRAMES, MOST_NODES};
+use crate::problem::Problem;
 use crate::relax::Planner;
 use crate::rng::Rng;
-use crate::section::{draw, Least, Outcome, Random};
+use crate::section::Kind::{self, Fixed, Random};
+use crate::section::Wanted::All;
+use crate::section::{Count, Section, Tally, ONE};
 use crate::shapes::{any_valid, valid, Shape, SHAPES};
 use crate::{lazy, rated, reader, trees, writer};
 
@@ -34,32 +35,8 @@ const MOST_TEXT: u64 = 1_000_000;
 const MOST_BYTES: usize = 32_768;
 const MOST_NUMBERS: usize = 4_096;
 
-/// Random jobs in the gate, and the most of a longer run, as the program is started
-/// for each of them.
-pub const GATE: u64 = 2_400;
+/// The most random jobs of a run, as the program is started for each of them.
 pub const MOST: u64 = 20_000;
-
-/// Least counts of jobs in a run, of damaged ones, of jobs for each number on the
-/// first line, and of jobs for each number on the last line, which only jobs with
-/// one of 0 and 12 on the first have.
-const LEAST_JOBS: u64 = 2_000;
-const LEAST_DAMAGED: u64 = 400;
-const LEAST_FIRST: [(usize, u64); 13] = [
-    (0, 300),
-    (1, 20),
-    (2, 20),
-    (3, 20),
-    (4, 20),
-    (5, 20),
-    (6, 20),
-    (7, 20),
-    (8, 20),
-    (9, 20),
-    (10, 20),
-    (12, 100),
-    (15, 100),
-];
-const LEAST_LAST: [(usize, u64); 2] = [(0, 300), (13, 50)];
 
 /// Most bytes of a text that are shown.
 const SHOWN: usize = 2_000;
@@ -72,60 +49,73 @@ const LISTING: &str = "0 4 15
 0 2 12 6 0 6
 ";
 
-/// What has been printed so far.
-struct Printed {
-    jobs: u64,
-    damaged: u64,
-    /// Jobs met for each number on the first line, and on the last.
-    first: [u64; 16],
-    last: [u64; 16],
-    seen: HashSet<u64>,
-}
+pub struct Program;
 
-impl Printed {
-    fn new() -> Self {
-        Printed {
-            jobs: 0,
-            damaged: 0,
-            first: [0; 16],
-            last: [0; 16],
-            seen: HashSet::new(),
+impl Section for Program {
+    type Case = Vec<u8>;
+
+    const NAME: &'static str = "program";
+    const CASES: &'static str = "jobs";
+    const GATE: u64 = 2_400;
+    const STREAM: u64 = 5_000;
+    const KINDS: &'static [Kind<Vec<u8>>] = &[
+        Fixed("examples", examples),
+        Fixed("plan at the limit", plan_limit),
+        Fixed("bytes at the limit", byte_limit),
+        Fixed("large", large),
+        Random("memories", 250, |_, rng| planned(rng)),
+        Random("rates", 250, |_, rng| answered(rng)),
+        Random("any valid", 60, |_, rng| any_valid(rng).encode()),
+        Random("faults", 240, faulty),
+        Random("bits flipped", 150, flipped),
+        Random("cut or lengthened", 50, cut),
+    ];
+    /// Only jobs with 0 or 12 on the first line have the rate question's last line.
+    const COUNTS: &'static [Count] = &[
+        ("jobs", ONE, All(2_000)),
+        ("damaged jobs", ONE, All(400)),
+        ("number {} on the first line", 0..=0, All(300)),
+        ("number {} on the first line", 1..=10, All(20)),
+        ("number {} on the first line", 12..=12, All(100)),
+        ("number {} on the first line", 15..=15, All(100)),
+        ("number {} on the last line", 0..=0, All(300)),
+        ("number {} on the last line", 13..=13, All(50)),
+    ];
+
+    /// With no random jobs asked for, it is left out.
+    fn ready(random: u64) -> Result<bool, Problem> {
+        match random > 0 && !Path::new(&path()).is_file() {
+            true => Err(format!("{} is missing", path())),
+            false => Ok(random > 0),
         }
     }
 
-    /// Runs the program on one job; what differs, if anything. A job met before is
-    /// left out.
-    fn compare(&mut self, path: &str, bytes: Vec<u8>) -> Result<(), String> {
-        if !self.seen.insert(hash(&bytes)) {
-            return Ok(());
-        }
-        let due = text(&bytes);
-        let got = printed(path, &bytes, Feed::of(self.jobs))?;
+    fn key(bytes: &Vec<u8>) -> impl Hash {
+        bytes
+    }
+
+    fn bytes(bytes: &Vec<u8>) -> Vec<u8> {
+        bytes.clone()
+    }
+
+    fn check(bytes: &Vec<u8>, tally: &mut Tally) -> Result<bool, Problem> {
+        let due = text(bytes);
+        let got = printed(&path(), bytes, Feed::of(tally.met("jobs", 0).all))?;
         if due.text != got {
-            return Err(difference(&due.text, &got, &bytes));
+            let cut = |text: &str| text.chars().take(SHOWN).collect::<String>();
+            return Err(format!("expected\n{}\ngot\n{}", cut(&due.text), cut(&got)));
         }
-        self.jobs += 1;
-        self.damaged += u64::from((1..=10).contains(&due.first));
-        self.first[due.first] += 1;
+        tally.one_if("damaged jobs", (1..=10).contains(&due.first));
+        tally.value("number {} on the first line", due.first);
         if let Some(last) = due.last {
-            self.last[last] += 1;
+            tally.value("number {} on the last line", last);
         }
-        Ok(())
+        Ok(true)
     }
 }
 
-fn difference(due: &str, got: &str, bytes: &[u8]) -> String {
-    let cut = |text: &str| text.chars().take(SHOWN).collect::<String>();
-    let mut hex = String::new();
-    for byte in &bytes[..bytes.len().min(SHOWN)] {
-        let _ = write!(hex, "{byte:02x}");
-    }
-    format!(
-        "program: expected\n{}\ngot\n{}\nfor {} bytes:\n{hex}",
-        cut(due),
-        cut(got),
-        bytes.len()
-    )
+fn path() -> String {
+    std::env::var("RELAY_PROGRAM").unwrap_or(PATH.to_string())
 }
 
 /// What is due: the text, the number on its first line and, where it has one, that
@@ -293,115 +283,6 @@ fn ended(child: &Mutex<Child>) -> io::Result<ExitStatus> {
     }
 }
 
-/// A sort of case whose number of jobs is fixed.
-type Fixed = (&'static str, fn(&mut Rng) -> Vec<Vec<u8>>);
-
-const FIXED: [Fixed; 4] = [
-    ("examples", examples),
-    ("plan at the limit", plan_limit),
-    ("bytes at the limit", byte_limit),
-    ("large", large),
-];
-
-const RANDOM: [Random<Vec<u8>>; 6] = [
-    ("memories", 250, |_, rng| planned(rng)),
-    ("rates", 250, |_, rng| answered(rng)),
-    ("any valid", 60, |_, rng| any_valid(rng).encode()),
-    ("faults", 240, faulty),
-    ("bits flipped", 150, flipped),
-    ("cut or lengthened", 50, cut),
-];
-
-/// Compares all cases, `random` of them random. With none asked for, all are left
-/// out.
-pub fn run(random: u64, seed: u64) -> Outcome {
-    let mut printed = Printed::new();
-    let well = all_well(random, seed, &mut printed);
-    Outcome {
-        passed: printed.jobs,
-        well,
-    }
-}
-
-fn all_well(random: u64, seed: u64, printed: &mut Printed) -> bool {
-    if random == 0 {
-        println!("program: LEFT OUT, as no jobs were asked for");
-        return true;
-    }
-    let path = std::env::var("RELAY_PROGRAM").unwrap_or(PATH.to_string());
-    println!("program {path}: seed {seed:#018x}, random jobs asked for {random}");
-    if !Path::new(&path).is_file() {
-        println!("program: {path} is missing");
-        return false;
-    }
-    println!("{:<22}{:>20}{:>10}", "kind", "seed", "jobs");
-    if let Err(what) = compare_all(&path, random, seed, printed) {
-        println!("{what}");
-        return false;
-    }
-    report(printed);
-    met_enough(random, printed)
-}
-
-fn compare_all(path: &str, random: u64, seed: u64, printed: &mut Printed) -> Result<(), String> {
-    // Streams of their own, apart from those of the other tests.
-    let mut seeds = (5_000..).map(|index| Rng::stream_seed(seed, index));
-    for ((name, make), seed) in FIXED.into_iter().zip(&mut seeds) {
-        let cases = make(&mut Rng::new(seed));
-        compare_kind(path, name, seed, cases.into_iter(), printed)?;
-    }
-    draw(random, RANDOM, &mut seeds, |name, seed, cases| {
-        compare_kind(path, name, seed, cases, printed)
-    })?;
-    Ok(())
-}
-
-/// Compares the cases of one kind and prints its line.
-fn compare_kind(
-    path: &str,
-    name: &str,
-    seed: u64,
-    cases: impl Iterator<Item = Vec<u8>>,
-    printed: &mut Printed,
-) -> Result<(), String> {
-    let before = printed.jobs;
-    for (i, bytes) in cases.enumerate() {
-        printed.compare(path, bytes).inspect_err(|_| {
-            println!("mismatch in kind \"{name}\", seed {seed:#018x}, case {i}");
-        })?;
-    }
-    println!("{name:<22}{seed:>#20x}{:>10}", printed.jobs - before);
-    Ok(())
-}
-
-fn report(printed: &Printed) {
-    println!("{:>6}{:>12}{:>12}", "number", "first line", "last line");
-    for (number, (first, last)) in printed.first.iter().zip(printed.last).enumerate() {
-        if first + last > 0 {
-            println!("{number:>6}{first:>12}{last:>12}");
-        }
-    }
-    println!(
-        "jobs: {}, of them damaged: {}",
-        printed.jobs, printed.damaged
-    );
-}
-
-fn met_enough(random: u64, printed: &Printed) -> bool {
-    let mut least = Least::new(random, GATE);
-    least.of("jobs of the program", printed.jobs, LEAST_JOBS);
-    least.of("damaged jobs", printed.damaged, LEAST_DAMAGED);
-    for (number, wanted) in LEAST_FIRST {
-        let what = format!("number {number} on the first line");
-        least.of(&what, printed.first[number], wanted);
-    }
-    for (number, wanted) in LEAST_LAST {
-        let what = format!("number {number} on the last line");
-        least.of(&what, printed.last[number], wanted);
-    }
-    least.met()
-}
-
 /// The document's examples, no bytes at all, and Tree Q cut to each length.
 fn examples(_: &mut Rng) -> Vec<Vec<u8>> {
     assert_eq!(text(&TREE_Q).text, LISTING, "the text against the document");
@@ -517,11 +398,7 @@ fn answered(rng: &mut Rng) -> Vec<u8> {
 
 /// Bytes with one fault or two of 1 to 10.
 fn faulty(i: u64, rng: &mut Rng) -> Vec<u8> {
-    let first = 1 + i % 10;
-    let mut numbers = vec![first];
-    if first < 10 && rng.one_in(2) {
-        numbers.push(rng.within(first + 1..=10));
-    }
+    let numbers = one_or_two(1 + i % 10, rng);
     with_faults(trees::small_job(rng), &numbers, rng)
 }
 

@@ -1,27 +1,19 @@
 //! Putting an answer back into a job: the library against the independent writer.
 
-use crate::asking::{equal, Problem};
-use crate::compare::Mismatch;
+use std::hash::Hash;
+
 use crate::edges::TREE_Q;
 use crate::faults::with_faults;
 use crate::job::{Job, GREATEST_AMOUNT, GREATEST_DELAY, MOST_FRAMES, MOST_NODES};
 use crate::lending::Lent;
-use crate::library::put_back;
+use crate::library;
+use crate::problem::{equal, holds, same, Problem};
 use crate::rng::Rng;
-use crate::section::{draw, Least, Outcome, Random};
+use crate::section::Kind::{self, Fixed, Random};
+use crate::section::Wanted::All;
+use crate::section::{Count, Section, Tally, ONE};
 use crate::shapes::{any_valid, valid, SHAPES};
-use crate::sizing::same_bytes;
 use crate::{reader, writer};
-
-/// Random jobs in the gate.
-pub const GATE: u64 = 20_000;
-
-/// Least count of jobs in a run, and of jobs for each number.
-const LEAST_JOBS: u64 = 20_000;
-const LEAST_PER_NUMBER: u64 = 500;
-
-/// The numbers: 0 and the refusals 1 to 11.
-const NUMBERS: usize = 12;
 
 /// Delays past the limit, some of which are short in their low bits alone.
 const LONG: [u64; 8] = [
@@ -46,7 +38,7 @@ const LARGE: [u64; 6] = [
 ];
 
 /// A job, or bytes that are none, and the answer to put back.
-struct Case {
+pub struct Case {
     bytes: Vec<u8>,
     job: Option<Job>,
     delay: u64,
@@ -55,152 +47,110 @@ struct Case {
     number: u64,
 }
 
-/// What has been put back so far.
-struct Puts {
-    jobs: u64,
-    /// Jobs met for each number.
-    numbers: [u64; NUMBERS],
-}
+pub struct Putting;
 
-impl Puts {
-    fn new() -> Self {
-        Puts {
-            jobs: 0,
-            numbers: [0; NUMBERS],
-        }
-    }
+impl Section for Putting {
+    type Case = Case;
 
-    fn compare(&mut self, case: Case) -> Result<(), Mismatch> {
-        problem(&case).map_err(|(what, expected, got)| Mismatch {
-            what: format!("putting back: {what}"),
-            expected,
-            got,
-            bytes: case.bytes,
-        })?;
-        self.jobs += 1;
-        self.numbers[case.number as usize] += 1;
-        Ok(())
-    }
-}
-
-const RANDOM: [Random<Case>; 5] = [
-    ("any answer", 400, |_, rng| any_answer(any_valid(rng), rng)),
-    ("faults", 300, faulty),
-    ("wrong lengths", 100, wrong_length),
-    ("long delays", 100, long_delay),
-    ("large memories", 100, large_memory),
-];
-
-/// Compares all cases, `random` of them random.
-pub fn run(random: u64, seed: u64) -> Outcome {
-    let mut puts = Puts::new();
-    let well = all_well(random, seed, &mut puts);
-    Outcome {
-        passed: puts.jobs,
-        well,
-    }
-}
-
-fn all_well(random: u64, seed: u64, puts: &mut Puts) -> bool {
-    println!("putting back: seed {seed:#018x}, random jobs asked for {random}");
-    println!("{:<22}{:>20}{:>10}", "kind", "seed", "jobs");
-    if let Err(mismatch) = compare_all(random, seed, puts) {
-        println!("{mismatch}");
-        return false;
-    }
-    println!("{:>6}{:>10}", "number", "jobs");
-    for (number, count) in puts.numbers.iter().enumerate() {
-        println!("{number:>6}{count:>10}");
-    }
-    met_enough(random, puts)
-}
-
-fn compare_all(random: u64, seed: u64, puts: &mut Puts) -> Result<(), Mismatch> {
-    // Streams of their own, apart from those of the other tests.
-    let mut seeds = (4_000..).map(|index| Rng::stream_seed(seed, index));
-    let fixed: [(_, fn(&mut Rng) -> Vec<Case>); 3] = [
-        ("Tree Q", tree_q),
-        ("refusals in order", refusals),
-        ("largest", largest),
+    const NAME: &'static str = "putting back";
+    const CASES: &'static str = "jobs";
+    const GATE: u64 = 20_000;
+    const STREAM: u64 = 4_000;
+    const KINDS: &'static [Kind<Case>] = &[
+        Fixed("Tree Q", tree_q),
+        Fixed("refusals in order", refusals),
+        Fixed("largest", largest),
+        Random("any answer", 400, |_, rng| any_answer(any_valid(rng), rng)),
+        Random("faults", 300, faulty),
+        Random("wrong lengths", 100, |_, rng| faulty_answer(11, 3, rng)),
+        Random("long delays", 100, |_, rng| faulty_answer(8, 2, rng)),
+        Random("large memories", 100, |_, rng| faulty_answer(9, 4, rng)),
+        Fixed("orders told apart", told_apart),
     ];
-    for ((name, make), seed) in fixed.into_iter().zip(&mut seeds) {
-        let cases = make(&mut Rng::new(seed));
-        compare_kind(name, seed, cases.into_iter(), puts)?;
+    /// The faults of an answer that meet are those of accepted jobs.
+    const COUNTS: &'static [Count] = &[
+        ("jobs", ONE, All(20_000)),
+        ("number {}", 0..=11, All(500)),
+        ("long delay with a wrong length", ONE, All(500)),
+        ("large memory with a wrong length", ONE, All(500)),
+        ("large memory past the last node", ONE, All(150)),
+        ("large memory with a long delay", ONE, All(500)),
+        ("long delay, large memory and wrong length", ONE, All(100)),
+        ("no memories", ONE, All(100)),
+    ];
+
+    fn key(case: &Case) -> impl Hash {
+        (&case.bytes, case.delay, &case.memories)
     }
-    draw(random, RANDOM, &mut seeds, |name, seed, cases| {
-        compare_kind(name, seed, cases, puts)
-    })?;
-    Ok(())
+
+    fn bytes(case: &Case) -> Vec<u8> {
+        case.bytes.clone()
+    }
+
+    fn check(case: &Case, tally: &mut Tally) -> Result<bool, Problem> {
+        let number = due(case);
+        equal(
+            "independent number against the generator",
+            case.number,
+            number,
+        )?;
+        let bytes = match &case.job {
+            Some(job) if number == 0 => writer::put_back(job, case.delay, &case.memories).encode(),
+            _ => case.bytes.clone(),
+        };
+        for round in 0..2 {
+            let (got, after) = put(&case.bytes, case.delay, &case.memories, round)?;
+            equal("number", number, got)?;
+            same("the job put back, byte", 0, &bytes, &after)?;
+        }
+        if number == 0 {
+            equal("the bytes put back are a job", 0, reader::refusal(&bytes))?;
+        }
+        tally.value("number {}", number as usize);
+        if let Some(job) = &case.job {
+            count_meetings(case, job.records.len(), tally);
+        }
+        Ok(true)
+    }
 }
 
-/// Compares the cases of one kind and prints its line.
-fn compare_kind(
-    name: &str,
-    seed: u64,
-    cases: impl Iterator<Item = Case>,
-    puts: &mut Puts,
-) -> Result<(), Mismatch> {
-    let mut jobs = 0;
-    for case in cases {
-        puts.compare(case).inspect_err(|_| {
-            println!("mismatch in kind \"{name}\", seed {seed:#018x}, case {jobs}");
-        })?;
-        jobs += 1;
-    }
-    println!("{name:<22}{seed:>#20x}{jobs:>10}");
-    Ok(())
+/// Counts which faults of an answer meet, for a tree of so many links.
+fn count_meetings(case: &Case, links: usize, tally: &mut Tally) {
+    let is_large = |&memory: &u64| memory > GREATEST_AMOUNT;
+    let long = case.delay > u64::from(GREATEST_DELAY);
+    let large = case.memories.iter().any(is_large);
+    let past = case.memories.iter().skip(links).any(is_large);
+    let wrong = case.memories.len() != links;
+    tally.one_if("long delay with a wrong length", long && wrong && !large);
+    tally.one_if("large memory with a wrong length", large && wrong && !long);
+    tally.one_if("large memory past the last node", past && !long);
+    tally.one_if("large memory with a long delay", large && long && !wrong);
+    tally.one_if(
+        "long delay, large memory and wrong length",
+        long && large && wrong,
+    );
+    tally.one_if("no memories", case.memories.is_empty());
 }
 
-fn met_enough(random: u64, puts: &Puts) -> bool {
-    let mut least = Least::new(random, GATE);
-    least.of("jobs put back", puts.jobs, LEAST_JOBS);
-    for (number, &count) in puts.numbers.iter().enumerate() {
-        least.of(&format!("number {number}"), count, LEAST_PER_NUMBER);
-    }
-    least.met()
-}
-
-/// The number that is due: the bytes' own refusal, then the length of the memories,
-/// the delay, and each memory.
+/// The number that is due: the bytes' own refusal, then the delay, each memory that is
+/// lent, and how many there are.
 fn due(case: &Case) -> u64 {
     let read = reader::refusal(&case.bytes);
     if read != 0 {
         return read;
     }
-    if case.memories.len() + 1 != usize::from(case.bytes[5]) {
-        return 11;
-    }
     if case.delay > 4_096 {
         return 8;
     }
-    let large = |&memory: &u64| memory > 1_099_511_627_775;
-    if case.memories.iter().any(large) {
-        return 9;
+    for &memory in &case.memories {
+        if memory > 1_099_511_627_775 {
+            return 9;
+        }
+    }
+    if case.memories.len() + 1 != usize::from(case.bytes[5]) {
+        return 11;
     }
     0
-}
-
-/// Puts back in two rounds, both of which must come to what is due.
-fn problem(case: &Case) -> Result<(), Problem> {
-    let number = due(case);
-    equal(
-        "independent number against the generator",
-        case.number,
-        number,
-    )?;
-    let bytes = match &case.job {
-        Some(job) if number == 0 => writer::put_back(job, case.delay, &case.memories).encode(),
-        _ => case.bytes.clone(),
-    };
-    for round in 0..2 {
-        let (got, after) = put(&case.bytes, case.delay, &case.memories, round)?;
-        equal("number", number, got)?;
-        same_bytes(&bytes, &after)?;
-    }
-    if number == 0 {
-        equal("the bytes put back are a job", 0, reader::refusal(&bytes))?;
-    }
-    Ok(())
 }
 
 /// Puts back by the library: its number and the bytes after. Guards, the memories
@@ -215,17 +165,12 @@ pub fn put(
     let mut job = Lent::bytes(bytes, round);
     let mut words = Lent::words(memories, round);
 
-    let number = put_back(job.part(), delay, words.part());
+    let number = library::put_back(job.part(), delay, words.part());
 
-    equal("guard bytes kept", 1, u64::from(job.guards_kept()))?;
-    equal(
-        "the memories and their guards kept",
-        1,
-        u64::from(words.untouched()),
-    )?;
+    holds("guard bytes kept", job.guards_kept())?;
+    holds("the memories and their guards kept", words.untouched())?;
     if number != 0 {
-        let kept = u64::from(job.untouched());
-        equal("the bytes kept on a refusal", 1, kept)?;
+        holds("the bytes kept on a refusal", job.untouched())?;
     }
     Ok((number, job.held().to_vec()))
 }
@@ -239,13 +184,47 @@ fn tree_q(_: &mut Rng) -> Vec<Case> {
     let job = Job::decode(&TREE_Q);
     let written = writer::put_back(&job, 2, &[6, 0, 6]).encode();
     assert_eq!(written, hand, "the writer against Tree Q by hand");
-    vec![Case {
+    vec![by_hand(2, &[6, 0, 6], 0)]
+}
+
+/// Tree Q, which has three links, with this answer and number.
+fn by_hand(delay: u64, memories: &[u64], number: u64) -> Case {
+    Case {
         bytes: TREE_Q.to_vec(),
-        job: Some(job),
-        delay: 2,
-        memories: vec![6, 0, 6],
-        number: 0,
-    }]
+        job: Some(Job::decode(&TREE_Q)),
+        delay,
+        memories: memories.to_vec(),
+        number,
+    }
+}
+
+/// Answers in which a long delay, a large memory and a wrong length meet, by hand. Where
+/// no memories are lent none is large, whatever lies there.
+fn told_apart(_: &mut Rng) -> Vec<Case> {
+    const L: u64 = 1_099_511_627_776;
+    vec![
+        // A long delay with a wrong length.
+        by_hand(4_097, &[], 8),
+        by_hand(4_097, &[6, 0], 8),
+        by_hand(4_097, &[6, 0, 6, 7], 8),
+        by_hand(u64::MAX, &[0; 64], 8),
+        // A large memory with a wrong length: in a place of a node, and past the last.
+        by_hand(2, &[L], 9),
+        by_hand(2, &[6, L], 9),
+        by_hand(4_096, &[L, 0, 6, 7], 9),
+        by_hand(2, &[6, 0, 6, L], 9),
+        by_hand(2, &[6, 0, 6, 7, 8, 9, u64::MAX], 9),
+        // A long delay with a large memory, of the right length and of others.
+        by_hand(4_097, &[6, 0, L], 8),
+        by_hand(4_097, &[6, L], 8),
+        by_hand(4_097, &[6, 0, 6, L], 8),
+        // A wrong length alone.
+        by_hand(2, &[], 11),
+        by_hand(4_096, &[L - 1; 4], 11),
+        by_hand(0, &[L - 1; 2], 11),
+        // None.
+        by_hand(4_096, &[L - 1; 3], 0),
+    ]
 }
 
 /// A job with memories of the right length, each number often at a bound.
@@ -268,36 +247,34 @@ fn wrong_lengths(links: usize) -> [usize; 5] {
     [links - 1, links + 1, 0, links + 20, 4 * links]
 }
 
-/// Plants a fault of the answer: 11, 8 or 9.
+/// The faults of an answer as they are planted: one that is told before others comes
+/// after them, and a large memory finds the list as long as it will be.
+const PLANTED: [u64; 3] = [11, 9, 8];
+
+/// Plants a fault of the answer, of which the number is then known.
 fn plant(case: &mut Case, number: u64, rng: &mut Rng) {
-    let links = case.memories.len();
     match number {
         11 => {
-            let mut lengths = wrong_lengths(links).to_vec();
-            // A memory that is too large must stay in sight.
-            lengths.retain(|&length| length > links);
-            let short = case
-                .memories
-                .iter()
-                .all(|&memory| memory <= GREATEST_AMOUNT);
-            if short {
-                lengths = wrong_lengths(links).to_vec();
-            }
-            let any = rng.up_to(GREATEST_AMOUNT);
-            case.memories.resize(rng.pick(&lengths), any);
+            let length = rng.pick(&wrong_lengths(case.memories.len()));
+            case.memories.resize(length, rng.up_to(GREATEST_AMOUNT));
         }
         8 => case.delay = rng.pick(&LONG),
         9 => {
-            let any = rng.index(links);
-            let at = rng.pick(&[0, links / 2, links - 1, any]);
+            let length = case.memories.len();
+            if length == 0 {
+                return;
+            }
+            let any = rng.index(length);
+            let at = rng.pick(&[0, length / 2, length - 1, any]);
             case.memories[at] = rng.pick(&LARGE);
         }
         _ => unreachable!("no fault {number} of an answer"),
     }
+    case.number = number;
 }
 
 /// Each fault of the bytes, or none, with each choice of the faults of the answer,
-/// on jobs of several sizes: the first in the order 1 to 10, 11, 8, 9 is given.
+/// on jobs of several sizes: the first in the order 1 to 10, 8, 9, 11 is given.
 fn refusals(rng: &mut Rng) -> Vec<Case> {
     let mut cases = Vec::new();
     for nodes in [2, 3, 6, 33, MOST_NODES] {
@@ -305,10 +282,9 @@ fn refusals(rng: &mut Rng) -> Vec<Case> {
             for choice in 0..8 {
                 let shape = rng.pick(&SHAPES);
                 let mut case = any_answer(valid(shape, nodes, 3, rng), rng);
-                for (bit, number) in [(1, 9), (2, 8), (4, 11)] {
-                    if choice & bit != 0 {
+                for (bit, number) in PLANTED.into_iter().enumerate() {
+                    if choice >> bit & 1 == 1 {
                         plant(&mut case, number, rng);
-                        case.number = number;
                     }
                 }
                 if let (Some(job), 1..) = (case.job.clone(), first) {
@@ -323,51 +299,25 @@ fn refusals(rng: &mut Rng) -> Vec<Case> {
     cases
 }
 
+/// Any answer with this fault, and each of the others one time in `often`. Where no
+/// memories are left, none is past its limit.
+fn faulty_answer(fault: u64, often: u64, rng: &mut Rng) -> Case {
+    let mut case = any_answer(any_valid(rng), rng);
+    for number in PLANTED {
+        if number == fault || rng.one_in(often) {
+            plant(&mut case, number, rng);
+        }
+    }
+    case
+}
+
 /// Bytes with one fault of 1 to 10, and at times faults of the answer.
 fn faulty(i: u64, rng: &mut Rng) -> Case {
-    let job = any_valid(rng);
     let number = 1 + i % 10;
-    let mut case = any_answer(job.clone(), rng);
+    let mut case = faulty_answer(0, 4, rng);
+    let job = case.job.take().expect("a job");
     case.bytes = with_faults(job, &[number], rng);
-    case.job = None;
     case.number = number;
-    for fault in [9, 8, 11] {
-        if rng.one_in(4) {
-            plant(&mut case, fault, rng);
-        }
-    }
-    case
-}
-
-/// Memories of a wrong length, at times with a delay or a memory past its limit.
-fn wrong_length(_: u64, rng: &mut Rng) -> Case {
-    let mut case = any_answer(any_valid(rng), rng);
-    for fault in [9, 8] {
-        if rng.one_in(3) {
-            plant(&mut case, fault, rng);
-        }
-    }
-    plant(&mut case, 11, rng);
-    case.number = 11;
-    case
-}
-
-/// A delay past its limit, at times with a memory past it.
-fn long_delay(_: u64, rng: &mut Rng) -> Case {
-    let mut case = any_answer(any_valid(rng), rng);
-    if rng.one_in(2) {
-        plant(&mut case, 9, rng);
-    }
-    plant(&mut case, 8, rng);
-    case.number = 8;
-    case
-}
-
-/// One memory past its limit, at each place.
-fn large_memory(_: u64, rng: &mut Rng) -> Case {
-    let mut case = any_answer(any_valid(rng), rng);
-    plant(&mut case, 9, rng);
-    case.number = 9;
     case
 }
 
@@ -380,7 +330,6 @@ fn largest(rng: &mut Rng) -> Vec<Case> {
             if number != 0 {
                 plant(&mut case, number, rng);
             }
-            case.number = number;
             cases.push(case);
         }
     }

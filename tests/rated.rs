@@ -2,13 +2,13 @@
 //! drawn from all that is allowed.
 
 use crate::edges::example_jobs;
-use crate::faults::with_faults;
+use crate::faults::{one_or_two, with_faults};
 use crate::job::{
     Job, Record, GREATEST_AMOUNT, GREATEST_DELAY, GREATEST_FRAME, MOST_FRAMES, MOST_NODES,
 };
 use crate::lazy;
 use crate::rng::Rng;
-use crate::shapes::{Shape, SHAPES};
+use crate::shapes::{Shape, SHAPES, TREES_OF_2, TREES_OF_3, TREES_OF_4};
 use crate::sizing::Case;
 
 /// A job with these parents, rates and frames.
@@ -64,19 +64,8 @@ fn lists(length: usize, most: u64) -> Vec<Vec<u64>> {
 
 /// Each tree of up to 4 nodes with each film and each rates of small numbers.
 pub fn every_tiny(rng: &mut Rng) -> Vec<Case> {
-    let trees: [&[u8]; 9] = [
-        &[0],
-        &[0, 0],
-        &[0, 1],
-        &[0, 0, 0],
-        &[0, 0, 1],
-        &[0, 0, 2],
-        &[0, 1, 0],
-        &[0, 1, 1],
-        &[0, 1, 2],
-    ];
     let mut cases = Vec::new();
-    for parents in trees {
+    for parents in [&TREES_OF_2[..], &TREES_OF_3, &TREES_OF_4].concat() {
         let links = parents.len();
         // Up to 3 frames on few nodes, up to 2 on more.
         for length in 1..=if links < 3 { 3 } else { 2 } {
@@ -187,10 +176,7 @@ pub fn faulty(i: u64, rng: &mut Rng) -> Case {
     let links = job.records.len();
     // Twice as many of 1, as its short strings repeat.
     let first = 1 + i % 11 % 10;
-    let mut numbers = vec![first];
-    if first < 10 && rng.one_in(2) {
-        numbers.push(rng.within(first + 1..=10));
-    }
+    let numbers = one_or_two(first, rng);
     let bytes = with_faults(job, &numbers, rng);
     let length = if rng.one_in(2) {
         links

@@ -1,20 +1,18 @@
 //! Reading a job: the library against the independent reader.
 
-use crate::compare::{count_cases, Case, Mismatch, Tally};
+use std::hash::Hash;
+
 use crate::faults::with_faults;
 use crate::job::{Job, FRAME_BYTES, HEADER_BYTES, MOST_NODES, RECORD_BYTES};
-use crate::library::{limits, LIMITS};
+use crate::lending::Lent;
+use crate::library::{limits, refusal, LIMITS};
+use crate::problem::{equal, holds, same, Problem};
 use crate::rng::Rng;
-use crate::section::{draw, Least, Outcome, Random};
+use crate::section::Kind::{self, Fixed, Random};
+use crate::section::Wanted::{All, Any};
+use crate::section::{Count, Section, Tally, ONE};
 use crate::shapes::{any_valid, few_frames, large_valid, valid, Shape, SHAPES};
-use crate::{edges, garbage};
-
-/// Random strings in the gate.
-pub const GATE: u64 = 127_000;
-
-/// Least count of strings in a run, and of strings for each number.
-const LEAST_STRINGS: u64 = 100_000;
-const LEAST_PER_NUMBER: u64 = 1_000;
+use crate::{edges, garbage, reader};
 
 /// The document's limits in the header's order: the nodes, the frames, the longest
 /// delay, the greatest memory, rate and frame, and the numbers of a running tree.
@@ -30,121 +28,104 @@ const DUE_LIMITS: [u64; LIMITS] = [
     65,
 ];
 
-/// A sort of case whose number of strings is fixed.
-type Fixed = (&'static str, fn(&mut Rng) -> Vec<Case>);
+pub struct Reading;
 
-const FIXED: [Fixed; 7] = [
-    ("examples", edges::examples),
-    ("each byte of Tree Q", edges::each_byte),
-    ("lengths", edges::lengths),
-    ("header bounds", edges::headers),
-    ("field bounds", edges::fields),
-    ("largest", edges::largest),
-    ("large", large),
-];
+impl Section for Reading {
+    type Case = Case;
 
-const RANDOM: [Random<Case>; 16] = [
-    ("valid chain", 50, |i, rng| shaped(Shape::Chain, i, rng)),
-    ("valid star", 50, |i, rng| shaped(Shape::Star, i, rng)),
-    ("valid broom", 40, |i, rng| shaped(Shape::Broom, i, rng)),
-    ("valid binary", 50, |i, rng| shaped(Shape::Binary, i, rng)),
-    ("valid caterpillar", 40, |i, rng| {
-        shaped(Shape::Caterpillar, i, rng)
-    }),
-    ("valid random", 70, |i, rng| shaped(Shape::Random, i, rng)),
-    ("one fault", 180, one_fault),
-    ("two faults", 230, two_faults),
-    ("several faults", 40, several_faults),
-    ("cut", 50, cut),
-    ("lengthened", 30, lengthened),
-    ("bits flipped", 90, flipped),
-    ("counts traded", 20, traded),
-    ("short", 30, garbage::short),
-    ("garbage", 10, garbage::plain),
-    ("garbage in form", 20, garbage::in_form),
-];
+    const NAME: &'static str = "reading";
+    const CASES: &'static str = "strings";
+    const GATE: u64 = 127_000;
+    const STREAM: u64 = 0;
+    const KINDS: &'static [Kind<Case>] = &[
+        Fixed("examples", edges::examples),
+        Fixed("each byte of Tree Q", edges::each_byte),
+        Fixed("lengths", edges::lengths),
+        Fixed("header bounds", edges::headers),
+        Fixed("field bounds", edges::fields),
+        Fixed("largest", edges::largest),
+        Fixed("large", large),
+        Random("valid chain", 50, |i, rng| shaped(Shape::Chain, i, rng)),
+        Random("valid star", 50, |i, rng| shaped(Shape::Star, i, rng)),
+        Random("valid broom", 40, |i, rng| shaped(Shape::Broom, i, rng)),
+        Random("valid binary", 50, |i, rng| shaped(Shape::Binary, i, rng)),
+        Random("valid caterpillar", 40, |i, rng| {
+            shaped(Shape::Caterpillar, i, rng)
+        }),
+        Random("valid random", 70, |i, rng| shaped(Shape::Random, i, rng)),
+        Random("one fault", 180, one_fault),
+        Random("two faults", 230, two_faults),
+        Random("several faults", 40, several_faults),
+        Random("cut", 50, cut),
+        Random("lengthened", 30, lengthened),
+        Random("bits flipped", 90, flipped),
+        Random("counts traded", 20, traded),
+        Random("short", 30, garbage::short),
+        Random("garbage", 10, garbage::plain),
+        Random("garbage in form", 20, garbage::in_form),
+    ];
+    const COUNTS: &'static [Count] = &[
+        ("strings", ONE, All(100_000)),
+        ("number {}", 0..=10, All(1_000)),
+        ("accepted strings of {} nodes", 2..=MOST_NODES, All(1)),
+        ("bytes in all strings", ONE, Any),
+        ("number known by construction", ONE, Any),
+    ];
 
-/// Compares all cases, `random` of them random.
-pub fn run(random: u64, seed: u64) -> Outcome {
-    let mut tally = Tally::new();
-    let well = all_well(random, seed, &mut tally);
-    Outcome {
-        passed: tally.strings,
-        well,
+    fn ready(_: u64) -> Result<bool, Problem> {
+        println!("limits of the library: {:?}", limits());
+        same("limit", 0, &DUE_LIMITS, &limits())?;
+        Ok(true)
+    }
+
+    fn key(case: &Case) -> impl Hash {
+        &case.bytes
+    }
+
+    fn bytes(case: &Case) -> Vec<u8> {
+        case.bytes.clone()
+    }
+
+    fn check(case: &Case, tally: &mut Tally) -> Result<bool, Problem> {
+        let due = reader::refusal(&case.bytes);
+        if let Some(known) = case.known {
+            equal("independent reader against the generator", known, due)?;
+        }
+        for round in 0..2 {
+            let mut lent = Lent::bytes(&case.bytes, round);
+            let got = refusal(lent.part());
+            equal("library against the independent reader", due, got)?;
+            holds(
+                "the lent bytes and those beside them kept",
+                lent.untouched(),
+            )?;
+        }
+        tally.value("number {}", due as usize);
+        tally.one_if("number known by construction", case.known.is_some());
+        tally.add("bytes in all strings", 0, case.bytes.len() as u64);
+        if due == 0 {
+            tally.value("accepted strings of {} nodes", usize::from(case.bytes[5]));
+        }
+        Ok(true)
     }
 }
 
-fn all_well(random: u64, seed: u64, tally: &mut Tally) -> bool {
-    println!("limits of the library: {:?}", limits());
-    if limits() != DUE_LIMITS {
-        println!("limits: {DUE_LIMITS:?} wanted");
-        return false;
-    }
-    println!("seed {seed:#018x}, random strings asked for {random}");
-    println!(
-        "{:<22}{:>20}{:>10}{:>10}",
-        "kind", "seed", "strings", "repeated"
-    );
-    if let Err(mismatch) = compare_all(random, seed, tally) {
-        println!("{mismatch}");
-        return false;
-    }
-    report(tally);
-    met_enough(random, tally)
+/// A byte string, with its number where the generator knows it.
+pub struct Case {
+    bytes: Vec<u8>,
+    known: Option<u64>,
 }
 
-fn compare_all(random: u64, seed: u64, tally: &mut Tally) -> Result<(), Mismatch> {
-    let mut seeds = (0..).map(|index| Rng::stream_seed(seed, index));
-    for ((name, make), seed) in FIXED.into_iter().zip(&mut seeds) {
-        let cases = make(&mut Rng::new(seed));
-        compare_kind(name, seed, cases.into_iter(), tally)?;
+impl Case {
+    pub fn known(bytes: Vec<u8>, number: u64) -> Self {
+        let known = Some(number);
+        Case { bytes, known }
     }
-    draw(random, RANDOM, &mut seeds, |name, seed, cases| {
-        compare_kind(name, seed, cases, tally)
-    })?;
-    Ok(())
-}
 
-/// Compares the cases of one kind and prints its line.
-fn compare_kind(
-    name: &str,
-    seed: u64,
-    cases: impl Iterator<Item = Case>,
-    tally: &mut Tally,
-) -> Result<(), Mismatch> {
-    let (strings, repeated) = count_cases(name, seed, cases, |case| tally.compare(case))?;
-    println!("{name:<22}{seed:>#20x}{strings:>10}{repeated:>10}");
-    Ok(())
-}
-
-fn report(tally: &Tally) {
-    println!("{:>6}{:>10}", "number", "strings");
-    for (number, count) in tally.numbers.iter().enumerate() {
-        println!("{number:>6}{count:>10}");
+    pub fn unknown(bytes: Vec<u8>) -> Self {
+        let known = None;
+        Case { bytes, known }
     }
-    let least = tally.node_counts[2..]
-        .iter()
-        .min()
-        .expect("node counts 2 to 64");
-    println!("accepted strings of each node count 2 to 64: at least {least}");
-    println!("bytes in all strings: {}", tally.total_bytes);
-    println!(
-        "independent reader held against a number known by construction: {}",
-        tally.known
-    );
-}
-
-/// Whether strings enough were met, of each number and node count too.
-fn met_enough(random: u64, tally: &Tally) -> bool {
-    let mut least = Least::new(random, GATE);
-    least.of("strings", tally.strings, LEAST_STRINGS);
-    for (number, &count) in tally.numbers.iter().enumerate() {
-        least.of(&format!("number {number}"), count, LEAST_PER_NUMBER);
-    }
-    for (nodes, &count) in tally.node_counts.iter().enumerate().skip(2) {
-        least.of(&format!("accepted strings of {nodes} nodes"), count, 1);
-    }
-    least.met()
 }
 
 /// A valid job of this shape; the node counts 2 to 64 take turns.

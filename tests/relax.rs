@@ -21,21 +21,27 @@ pub struct Planner {
     base: Option<Vec<u64>>,
 }
 
+/// Of each link the link above it, where there is one, and those below it.
+fn family(job: &Job) -> (Vec<Option<usize>>, Vec<Vec<usize>>) {
+    let links = job.records.len();
+    let (mut parents, mut children) = (vec![None; links], vec![Vec::new(); links]);
+    for (link, record) in job.records.iter().enumerate() {
+        if record.parent > 0 {
+            let parent = usize::from(record.parent) - 1;
+            parents[link] = Some(parent);
+            children[parent].push(link);
+        }
+    }
+    (parents, children)
+}
+
 impl Planner {
     pub fn new(job: &Job) -> Self {
         let links = job.records.len();
         let last = |record: &crate::job::Record| usize::from(record.delay) + job.frames.len();
         let slots = 1 + job.records.iter().map(last).max().expect("a link");
         let total = job.frames.iter().map(|&frame| u64::from(frame)).sum();
-        let mut parents = vec![None; links];
-        let mut children = vec![Vec::new(); links];
-        for (link, record) in job.records.iter().enumerate() {
-            if record.parent > 0 {
-                let parent = usize::from(record.parent) - 1;
-                parents[link] = Some(parent);
-                children[parent].push(link);
-            }
-        }
+        let (parents, children) = family(job);
         let mut least = vec![0; links * slots];
         let mut most = vec![total; links * slots];
         for (link, record) in job.records.iter().enumerate() {

@@ -1,25 +1,23 @@
 //! The row of one link: the library against an independent computation, and against
 //! the plans of the memory question.
 
-use std::collections::HashSet;
-use std::hash::{DefaultHasher, Hash, Hasher};
+use std::hash::Hash;
 
-use crate::answer::peak;
-use crate::asking::{ask, equal, lengths, Problem};
-use crate::compare::{count_cases, Mismatch};
+use crate::answer::{peak, Answer};
+use crate::asking::{ask, lengths};
 use crate::edges::TREE_Q;
 use crate::faults::with_faults;
 use crate::job::{Job, GREATEST_DELAY, MOST_FRAMES, MOST_NODES};
 use crate::lending::Lent;
 use crate::library::{row_of, Row};
+use crate::problem::{equal, holds, same, Problem};
 use crate::relax::Planner;
 use crate::rng::Rng;
-use crate::section::{draw, Least, Outcome, Random};
+use crate::section::Kind::{self, Fixed, Random};
+use crate::section::Wanted::{All, Any};
+use crate::section::{Count, Section, Tally, ONE};
 use crate::shapes::{any_valid, few_frames, valid, Shape, SHAPES};
 use crate::{reader, trees};
-
-/// Random cases in the gate.
-pub const GATE: u64 = 20_000;
 
 /// What a row comes to: 0 where it is not empty, 1 to 10 where it is as the bytes are
 /// refused, and these where it is for the plan's length, the link or both.
@@ -27,15 +25,6 @@ const ROW: usize = 0;
 const LENGTH: usize = 11;
 const LINK: usize = 12;
 const BOTH: usize = 13;
-const REASONS: usize = 14;
-
-/// Least counts of rows for each reason, of rows that are not empty for each link, and
-/// of plans and rows in them that were held against the memory question.
-const LEAST_ROWS: [(usize, u64); 4] = [(ROW, 8_000), (LENGTH, 3_000), (LINK, 2_000), (BOTH, 1_000)];
-const LEAST_REFUSED: u64 = 200;
-const LEAST_PER_LINK: u64 = 50;
-const LEAST_PLANS: u64 = 800;
-const LEAST_TILES: u64 = 4_000;
 
 const EMPTY: Row = Row {
     start: 0,
@@ -43,7 +32,7 @@ const EMPTY: Row = Row {
 };
 
 /// Rows asked for of one job's bytes, or of a whole plan.
-enum Case {
+pub enum Case {
     Row {
         bytes: Vec<u8>,
         plan: usize,
@@ -57,138 +46,165 @@ enum Case {
     Plan(Job, bool),
 }
 
-/// What has been asked so far.
-struct Rows {
-    cases: u64,
-    /// Rows met for each reason.
-    reasons: [u64; REASONS],
-    /// Rows met that are not empty, for each link.
-    links: [u64; MOST_NODES],
-    plans: u64,
-    /// Rows of those plans.
-    tiles: u64,
-    seen: HashSet<u64>,
-}
-
-impl Rows {
-    fn new() -> Self {
-        Rows {
-            cases: 0,
-            reasons: [0; REASONS],
-            links: [0; MOST_NODES],
-            plans: 0,
-            tiles: 0,
-            seen: HashSet::new(),
-        }
-    }
-
-    /// Compares one case. False where it was met before, or has no plan: it is then
-    /// left out.
-    fn compare(&mut self, case: Case) -> Result<bool, Mismatch> {
-        let (bytes, place) = match &case {
+impl Case {
+    /// The bytes, and of a row the plan's length and the link.
+    fn place(&self) -> (Vec<u8>, Option<(usize, usize)>) {
+        match self {
             Case::Row {
                 bytes, plan, link, ..
             } => (bytes.clone(), Some((*plan, *link))),
             Case::Plan(job, _) => (job.encode(), None),
-        };
-        let mut hasher = DefaultHasher::new();
-        (&bytes, place).hash(&mut hasher);
-        if !self.seen.insert(hasher.finish()) {
-            return Ok(false);
         }
-        let found = match &case {
-            Case::Plan(job, planned) => self.plan(job, &bytes, *planned),
+    }
+}
+
+pub struct Rows;
+
+impl Section for Rows {
+    type Case = Case;
+
+    const NAME: &'static str = "row of one link";
+    const CASES: &'static str = "cases";
+    const GATE: u64 = 20_000;
+    const STREAM: u64 = 6_000;
+    const KINDS: &'static [Kind<Case>] = &[
+        Fixed("Tree Q", tree_q),
+        Fixed("bounds", bounds),
+        Fixed("each link", each_link),
+        Fixed("refusals", refusals),
+        Fixed("largest plan", |rng| {
+            vec![Case::Plan(trees::largest(rng), false)]
+        }),
+        Random("rows", 400, |i, rng| any(ROW, i, rng)),
+        Random("wrong lengths", 200, |i, rng| any(LENGTH, i, rng)),
+        Random("no such link", 130, |i, rng| any(LINK, i, rng)),
+        Random("both", 60, |i, rng| any(BOTH, i, rng)),
+        Random("faults", 150, faulty),
+        Random("plans", 60, |_, rng| {
+            Case::Plan(trees::small_job(rng), true)
+        }),
+    ];
+    const COUNTS: &'static [Count] = &[
+        ("cases", ONE, Any),
+        ("rows not empty", ONE, All(8_000)),
+        ("empty as the bytes are refused by {}", 1..=10, All(200)),
+        ("empty for the plan's length", ONE, All(3_000)),
+        ("empty for the link", ONE, All(2_000)),
+        ("empty for both", ONE, All(1_000)),
+        ("rows of link {}", 1..=MOST_NODES - 1, All(50)),
+        ("plans of the memory question", ONE, All(800)),
+        ("rows that tile them", ONE, All(4_000)),
+    ];
+
+    fn key(case: &Case) -> impl Hash {
+        case.place()
+    }
+
+    fn bytes(case: &Case) -> Vec<u8> {
+        case.place().0
+    }
+
+    fn check(case: &Case, tally: &mut Tally) -> Result<bool, Problem> {
+        match case {
+            Case::Plan(job, planned) => check_plan(job, *planned, tally),
             Case::Row {
+                bytes,
                 plan,
                 link,
                 reason,
                 row,
-                ..
-            } => self.row(&bytes, *plan, *link, (*reason, *row)),
-        };
-        let new = found.map_err(|(what, expected, got)| Mismatch {
-            what: format!("row of one link, plan length and link {place:?}: {what}"),
-            expected,
-            got,
-            bytes,
-        })?;
-        self.cases += u64::from(new);
-        Ok(new)
-    }
-
-    /// One row, in two rounds.
-    fn row(
-        &mut self,
-        bytes: &[u8],
-        plan: usize,
-        link: usize,
-        known: (usize, Row),
-    ) -> Result<bool, Problem> {
-        let (reason, row) = due(bytes, plan, link);
-        let known_reason = known.0 as u64;
-        equal("reason against the generator", known_reason, reason as u64)?;
-        same("independent row against the generator", known.1, row)?;
-        for round in 0..2 {
-            same("row", row, call(bytes, plan, link, round)?)?;
-        }
-        self.reasons[reason] += 1;
-        if reason == ROW {
-            self.links[link] += 1;
-        }
-        Ok(true)
-    }
-
-    /// The rows of all links tile the plan that the memory question gives, in order,
-    /// and each holds its link's row. False where there is no plan.
-    fn plan(&mut self, job: &Job, bytes: &[u8], planned: bool) -> Result<bool, Problem> {
-        let (length, links) = lengths(job);
-        let (answer, plan, peaks) = ask(bytes, length, links, 0)?;
-        if answer.number != 0 {
-            return Ok(false);
-        }
-        let due = planned.then(|| Planner::new(job).answer());
-        if let Some(None) = due {
-            return Err(("number by the independent planner".to_string(), 12, 0));
-        }
-        let mut end = 0;
-        for link in 1..=links {
-            let row = call(bytes, length, link, link % 2)?;
-            equal("start where the last row ends", end, row.start as u64)?;
-            end += row.length as u64;
-            let Some(held) = plan.held().get(row.start..row.start + row.length) else {
-                return Err(("end within the plan".to_string(), length as u64, end));
-            };
-            let slots = answer.last_slot + 1;
-            equal("numbers of a row", slots, held.len() as u64)?;
-            equal("peak of what it holds", peaks.held()[link - 1], peak(held))?;
-            if let Some(Some(due)) = &due {
-                let right = u64::from(due.rows[link - 1] == held);
-                equal("it holds the row of its link", 1, right)?;
+            } => {
+                check_row(bytes, (*plan, *link), (*reason, *row), tally)
+                    .map_err(|problem| format!("link {link}, plan length {plan}: {problem}"))?;
+                Ok(true)
             }
         }
-        equal("end of the last row", length as u64, end)?;
-        self.plans += 1;
-        self.tiles += links as u64;
-        Ok(true)
     }
+}
+
+/// One row, in two rounds; what it comes to and the row are known by construction.
+fn check_row(
+    bytes: &[u8],
+    (plan, link): (usize, usize),
+    known: (usize, Row),
+    tally: &mut Tally,
+) -> Result<(), Problem> {
+    let (reason, row) = due(bytes, plan, link);
+    equal("reason against the generator", known.0, reason)?;
+    same_row("independent row against the generator", known.1, row)?;
+    for round in 0..2 {
+        same_row("row", row, call(bytes, plan, link, round)?)?;
+    }
+    match reason {
+        ROW => tally.value("rows not empty", 0),
+        LENGTH => tally.value("empty for the plan's length", 0),
+        LINK => tally.value("empty for the link", 0),
+        BOTH => tally.value("empty for both", 0),
+        number => tally.value("empty as the bytes are refused by {}", number),
+    }
+    if reason == ROW {
+        tally.value("rows of link {}", link);
+    }
+    Ok(())
+}
+
+/// The rows of all links tile the plan that the memory question gives, in order, and
+/// each holds its link's row. False where there is no plan.
+fn check_plan(job: &Job, planned: bool, tally: &mut Tally) -> Result<bool, Problem> {
+    let (bytes, (length, links)) = (job.encode(), lengths(job));
+    let (answer, plan, peaks) = ask(&bytes, length, links, 0)?;
+    if answer.number != 0 {
+        return Ok(false);
+    }
+    let due: Option<Answer> = match planned {
+        true => Some(
+            Planner::new(job)
+                .answer()
+                .ok_or("the independent planner has no plan")?,
+        ),
+        false => None,
+    };
+    let mut end = 0;
+    for link in 1..=links {
+        let row = call(&bytes, length, link, link % 2)?;
+        equal("start where the last row ends", end, row.start)?;
+        end += row.length;
+        let held = plan
+            .held()
+            .get(row.start..end)
+            .ok_or("a row ends past the plan")?;
+        equal(
+            "numbers of a row",
+            answer.last_slot as usize + 1,
+            held.len(),
+        )?;
+        equal("peak of what it holds", peaks.held()[link - 1], peak(held))?;
+        if let Some(due) = &due {
+            same(
+                &format!("row of link {link}, slot"),
+                0,
+                &due.rows[link - 1],
+                held,
+            )?;
+        }
+    }
+    equal("end of the last row", length, end)?;
+    tally.value("plans of the memory question", 0);
+    tally.add("rows that tile them", 0, links as u64);
+    Ok(true)
 }
 
 /// The library's row. The bytes and their guards must be as they were.
 fn call(bytes: &[u8], plan: usize, link: usize, round: usize) -> Result<Row, Problem> {
     let mut job = Lent::bytes(bytes, round);
     let row = row_of(job.part(), plan, link);
-    equal("the job's bytes kept", 1, u64::from(job.untouched()))?;
+    holds("the job's bytes kept", job.untouched())?;
     Ok(row)
 }
 
-fn same(what: &str, due: Row, got: Row) -> Result<(), Problem> {
-    equal(
-        &format!("{what}: start"),
-        due.start as u64,
-        got.start as u64,
-    )?;
-    let (due, got) = (due.length as u64, got.length as u64);
-    equal(&format!("{what}: length"), due, got)
+fn same_row(what: &str, due: Row, got: Row) -> Result<(), Problem> {
+    equal(&format!("{what}: start"), due.start, got.start)?;
+    equal(&format!("{what}: length"), due.length, got.length)
 }
 
 /// What a row comes to, from the words of the document: the rows are laid out one
@@ -217,110 +233,6 @@ fn due(bytes: &[u8], plan: usize, link: usize) -> (usize, Row) {
         (None, true) => (LINK, EMPTY),
         (None, false) => (BOTH, EMPTY),
     }
-}
-
-/// A sort of case whose number is fixed.
-type Fixed = (&'static str, fn(&mut Rng) -> Vec<Case>);
-
-const FIXED: [Fixed; 5] = [
-    ("Tree Q", tree_q),
-    ("bounds", bounds),
-    ("each link", each_link),
-    ("refusals", refusals),
-    ("largest plan", |rng| {
-        vec![Case::Plan(trees::largest(rng), false)]
-    }),
-];
-
-const RANDOM: [Random<Case>; 6] = [
-    ("rows", 400, |i, rng| any(ROW, i, rng)),
-    ("wrong lengths", 200, |i, rng| any(LENGTH, i, rng)),
-    ("no such link", 130, |i, rng| any(LINK, i, rng)),
-    ("both", 60, |i, rng| any(BOTH, i, rng)),
-    ("faults", 150, faulty),
-    ("plans", 60, |_, rng| {
-        Case::Plan(trees::small_job(rng), true)
-    }),
-];
-
-/// Compares all cases, `random` of them random.
-pub fn run(random: u64, seed: u64) -> Outcome {
-    println!("row of one link: seed {seed:#018x}, random cases asked for {random}");
-    println!(
-        "{:<22}{:>20}{:>10}{:>10}",
-        "kind", "seed", "cases", "left out"
-    );
-    let mut rows = Rows::new();
-    let well = match compare_all(random, seed, &mut rows) {
-        Ok(()) => {
-            report(&rows);
-            met_enough(random, &rows)
-        }
-        Err(mismatch) => {
-            println!("{mismatch}");
-            false
-        }
-    };
-    Outcome {
-        passed: rows.cases,
-        well,
-    }
-}
-
-fn compare_all(random: u64, seed: u64, rows: &mut Rows) -> Result<(), Mismatch> {
-    // Streams of their own, apart from those of the other tests.
-    let mut seeds = (6_000..).map(|index| Rng::stream_seed(seed, index));
-    for ((name, make), seed) in FIXED.into_iter().zip(&mut seeds) {
-        let cases = make(&mut Rng::new(seed));
-        compare_kind(name, seed, cases.into_iter(), rows)?;
-    }
-    draw(random, RANDOM, &mut seeds, |name, seed, cases| {
-        compare_kind(name, seed, cases, rows)
-    })?;
-    Ok(())
-}
-
-/// Compares the cases of one kind and prints its line.
-fn compare_kind(
-    name: &str,
-    seed: u64,
-    cases: impl Iterator<Item = Case>,
-    rows: &mut Rows,
-) -> Result<(), Mismatch> {
-    let (cases, left_out) = count_cases(name, seed, cases, |case| rows.compare(case))?;
-    println!("{name:<22}{seed:>#20x}{cases:>10}{left_out:>10}");
-    Ok(())
-}
-
-fn report(rows: &Rows) {
-    println!("rows not empty: {}", rows.reasons[ROW]);
-    println!("empty as the bytes are refused, for each number from 1 on:");
-    println!("{:?}", &rows.reasons[1..LENGTH]);
-    println!(
-        "empty for the plan's length: {}, the link: {}, both: {}",
-        rows.reasons[LENGTH], rows.reasons[LINK], rows.reasons[BOTH]
-    );
-    println!(
-        "plans of the memory question: {}, tiled by {} rows",
-        rows.plans, rows.tiles
-    );
-}
-
-/// Whether rows enough were met, of each reason and each link too.
-fn met_enough(random: u64, rows: &Rows) -> bool {
-    let mut least = Least::new(random, GATE);
-    for (reason, wanted) in LEAST_ROWS {
-        least.of(&format!("reason {reason}"), rows.reasons[reason], wanted);
-    }
-    for (number, &count) in rows.reasons.iter().enumerate().take(LENGTH).skip(1) {
-        least.of(&format!("number {number}"), count, LEAST_REFUSED);
-    }
-    for (link, &count) in rows.links.iter().enumerate().skip(1) {
-        least.of(&format!("rows of link {link}"), count, LEAST_PER_LINK);
-    }
-    least.of("plans tiled", rows.plans, LEAST_PLANS);
-    least.of("rows of plans tiled", rows.tiles, LEAST_TILES);
-    least.met()
 }
 
 /// A row of a job with so many slots, by the formula.

@@ -1,31 +1,20 @@
 //! The running tree: steps of the library against the independent model.
 
+use std::hash::Hash;
+
 use crate::asking::lengths;
-use crate::compare::Mismatch;
 use crate::edges::example_jobs;
-use crate::faults::with_faults;
+use crate::faults::{one_or_two, with_faults};
 use crate::job::{Job, Record, GREATEST_AMOUNT, GREATEST_DELAY, GREATEST_FRAME, MOST_NODES};
 use crate::library::{memory_question, Running, PLACES};
+use crate::problem::Problem;
 use crate::rng::Rng;
 use crate::rules::Rules;
-use crate::section::{draw, Least, Outcome, Random};
-use crate::shapes::{few_frames, SHAPES};
-use crate::stepping::{
-    due, expect, Breach, Case, Counts, Due, Steps, BREACHES, BROKEN, DONE, TAKEN, WRONG_LENGTH,
-};
+use crate::section::Kind::{self, Fixed, Random};
+use crate::section::{Count, Section, Tally, Wanted, ONE};
+use crate::shapes::{few_frames, SHAPES, TREES_OF_2, TREES_OF_3, TREES_OF_4};
+use crate::stepping::{self, due, Breach, Case, Due, BROKEN, DONE, TAKEN, WRONG_LENGTH};
 use crate::trees;
-
-/// Random steps in the gate.
-pub const GATE: u64 = 60_000;
-
-/// Least counts of random steps: of all, of those with each of `FREQUENT`, of
-/// those with each refusal of a job's bytes, and of each way to break a rule
-/// alone.
-const LEAST_STEPS: u64 = 50_000;
-const LEAST_FREQUENT: u64 = 1_000;
-const LEAST_OF_BYTES: u64 = 100;
-const LEAST_ALONE: u64 = 500;
-const FREQUENT: [u64; 4] = [TAKEN, DONE, WRONG_LENGTH, BROKEN];
 
 /// Least count of foreign plans that keep the rules, and of those that do not.
 const LEAST_FOREIGN: u64 = 500;
@@ -36,139 +25,58 @@ const PLANNED: u64 = 500;
 /// Numbers at the edges of 64 bits.
 const WORDS: [u64; 6] = [0, 1, 1 << 63, (1 << 63) - 1, u64::MAX - 1, u64::MAX];
 
-/// A sort of steps whose number is fixed.
-type Fixed = (&'static str, fn(&mut Rng, &mut Steps) -> Found);
-type Found = Result<(), Mismatch>;
+pub struct Steps;
 
-const FIXED: [Fixed; 6] = [
-    ("examples", examples),
-    ("each way to break", each_breach),
-    ("refusals in order", refusals),
-    ("foreign plans", foreign),
-    ("planned jobs", planned),
-    ("largest", largest),
-];
+impl Section for Steps {
+    type Case = Case;
 
-const RANDOM: [Random<Case>; 6] = [
-    ("fitting", 250, |_, rng| fitting(rng)),
-    ("changed", 450, |_, rng| changed(rng)),
-    ("anything", 100, |_, rng| anything(rng)),
-    ("slots past the last", 50, |_, rng| past(rng)),
-    ("wrong lengths", 75, wrong_length),
-    ("faults", 75, faulty),
-];
+    const NAME: &'static str = "running tree";
+    const CASES: &'static str = "steps";
+    const GATE: u64 = 60_000;
+    const STREAM: u64 = 2_000;
+    const KINDS: &'static [Kind<Case>] = &[
+        Fixed("examples", examples),
+        Fixed("each way to break", each_breach),
+        Fixed("refusals in order", refusals),
+        Fixed("foreign plans", foreign),
+        Fixed("planned jobs", planned),
+        Fixed("largest", largest),
+        Random("fitting", 250, |_, rng| fitting(rng)),
+        Random("changed", 450, |_, rng| changed(rng)),
+        Random("anything", 100, |_, rng| anything(rng)),
+        Random("slots past the last", 50, |_, rng| past(rng)),
+        Random("wrong lengths", 75, wrong_length),
+        Random("faults", 75, faulty),
+    ];
+    /// Numbers are those of taken (0), refused, broken (14) and done (100) steps.
+    const COUNTS: &'static [Count] = &[
+        ("steps", ONE, Wanted::Random(50_000)),
+        ("number {}", 0..=0, Wanted::Random(1_000)),
+        ("number {}", 1..=10, Wanted::Random(100)),
+        ("number {}", 11..=11, Wanted::Random(1_000)),
+        ("number {}", 14..=14, Wanted::Random(1_000)),
+        ("number {}", 100..=100, Wanted::Random(1_000)),
+        ("falls, alone", ONE, Wanted::Random(500)),
+        ("passes all frames, alone", ONE, Wanted::Random(500)),
+        ("starves, alone", ONE, Wanted::Random(500)),
+        ("overflows, alone", ONE, Wanted::Random(500)),
+        ("child ahead, alone", ONE, Wanted::Random(500)),
+        ("parent ahead, alone", ONE, Wanted::Random(500)),
+    ];
 
-/// Compares all steps, `random` of them random.
-pub fn run(random: u64, seed: u64) -> Outcome {
-    let mut steps = Steps::new();
-    let well = all_well(random, seed, &mut steps);
-    Outcome {
-        passed: steps.counts.steps,
-        well,
+    fn key(case: &Case) -> impl Hash {
+        (&case.bytes, &case.tree, &case.plan, case.sent, case.held)
     }
-}
 
-fn all_well(random: u64, seed: u64, steps: &mut Steps) -> bool {
-    println!("running tree: seed {seed:#018x}, random steps asked for {random}");
-    println!(
-        "{:<22}{:>20}{:>10}{:>10}",
-        "kind", "seed", "steps", "repeated"
-    );
-    match compare_all(random, seed, steps) {
-        Ok(fixed) => {
-            let drawn = difference(&steps.counts, &fixed);
-            report(&drawn, &steps.counts);
-            met_enough(random, &drawn)
-        }
-        Err(mismatch) => {
-            println!("{mismatch}");
-            false
-        }
+    fn bytes(case: &Case) -> Vec<u8> {
+        case.bytes.clone()
     }
-}
 
-/// Gives the counts before the random steps.
-fn compare_all(random: u64, seed: u64, steps: &mut Steps) -> Result<Counts, Mismatch> {
-    // Streams of their own, apart from those of the other tests.
-    let mut seeds = (2_000..).map(|index| Rng::stream_seed(seed, index));
-    for ((name, make), seed) in FIXED.into_iter().zip(&mut seeds) {
-        kind(name, seed, steps, |rng, steps| make(rng, steps))?;
+    fn check(case: &Case, tally: &mut Tally) -> Result<bool, Problem> {
+        stepping::check(case, tally)
+            .map_err(|problem| format!("slot number {}: {problem}", case.tree.slot))?;
+        Ok(true)
     }
-    let fixed = steps.counts.clone();
-    draw(random, RANDOM, &mut seeds, |name, seed, cases| {
-        kind(name, seed, steps, |_, steps| {
-            for case in cases {
-                steps.compare(&case)?;
-            }
-            Ok(())
-        })
-    })?;
-    Ok(fixed)
-}
-
-/// Compares the steps of one kind and prints its line.
-fn kind(
-    name: &str,
-    seed: u64,
-    steps: &mut Steps,
-    make: impl FnOnce(&mut Rng, &mut Steps) -> Found,
-) -> Found {
-    let before = (steps.counts.steps, steps.repeated);
-    let found = make(&mut Rng::new(seed), steps);
-    let (met, repeated) = (steps.counts.steps - before.0, steps.repeated - before.1);
-    if found.is_err() {
-        println!(
-            "mismatch in kind \"{name}\", seed {seed:#018x}, step {}",
-            met + repeated
-        );
-    } else {
-        println!("{name:<22}{seed:>#20x}{met:>10}{repeated:>10}");
-    }
-    found
-}
-
-fn difference(all: &Counts, before: &Counts) -> Counts {
-    let mut counts = all.clone();
-    counts.steps -= before.steps;
-    for (count, before) in counts.numbers.iter_mut().zip(before.numbers) {
-        *count -= before;
-    }
-    for (count, before) in counts.alone.iter_mut().zip(before.alone) {
-        *count -= before;
-    }
-    counts
-}
-
-fn report(drawn: &Counts, all: &Counts) {
-    println!("{:>6}{:>10}{:>10}", "number", "random", "all");
-    for (number, (drawn, all)) in drawn.numbers.iter().zip(all.numbers).enumerate() {
-        if all > 0 {
-            println!("{number:>6}{drawn:>10}{all:>10}");
-        }
-    }
-    println!("{:<14}{:>10}{:>10}", "broken alone", "random steps", "all");
-    for (breach, (drawn, all)) in BREACHES.iter().zip(drawn.alone.iter().zip(all.alone)) {
-        println!("{:<14}{drawn:>12}{all:>10}", format!("{breach:?}"));
-    }
-    println!("steps: {} random, {} in all", drawn.steps, all.steps);
-}
-
-/// Whether random steps enough were met, of each number and each breach too.
-fn met_enough(random: u64, drawn: &Counts) -> bool {
-    let mut least = Least::new(random, GATE);
-    least.of("random steps", drawn.steps, LEAST_STEPS);
-    for number in FREQUENT {
-        let count = drawn.numbers[number as usize];
-        least.of(&format!("number {number}"), count, LEAST_FREQUENT);
-    }
-    for number in 1..=10 {
-        let count = drawn.numbers[number];
-        least.of(&format!("number {number}"), count, LEAST_OF_BYTES);
-    }
-    for (breach, &count) in BREACHES.iter().zip(&drawn.alone) {
-        least.of(&format!("{breach:?} alone"), count, LEAST_ALONE);
-    }
-    least.met()
 }
 
 /// The library's plan of `job`, if there is one.
@@ -185,45 +93,41 @@ fn plan_of(job: &Job) -> Option<Vec<u64>> {
     (answer.number == 0).then_some(plan)
 }
 
-/// Runs a plan from the first tree on. Of its columns `taken` are taken, no node
-/// then holds more than its memory, and the next step has the number `last`; so
-/// has one more where that is done.
-fn run_plan(job: &Job, plan: Vec<u64>, taken: usize, last: u64, steps: &mut Steps) -> Found {
+/// The steps of a plan from the first tree on. Of its columns `taken` are taken, no node
+/// then holds more than its memory, and the next step has the number `last`.
+fn run_plan(job: &Job, plan: Vec<u64>, taken: usize, last: u64) -> Vec<Case> {
     let mut case = Case::new(job.clone(), Running::start(), plan);
+    let mut cases = Vec::new();
     for slot in 1..=taken as u64 {
         let before = case.tree;
-        case.tree = steps.known(&case, TAKEN)?.tree;
-        expect("slot", slot, case.tree.slot, &case)?;
-        within_memories(job, &before, &case)?;
+        cases.push(case.known(TAKEN));
+        case.tree = case.after();
+        assert_eq!(case.tree.slot, slot, "the model's slot number");
+        let within = within_memories(job, &before, &case.tree);
+        assert!(within, "the model holds bytes within the memories");
     }
-    case.tree = steps.known(&case, last)?.tree;
-    if last == DONE {
-        steps.known(&case, DONE)?;
-    }
-    Ok(())
+    cases.push(case.known(last));
+    cases
 }
 
 /// Whether, after a step, each node holds at most its memory: what came in less
 /// what went out, on the way that lags most, or was played.
-fn within_memories(job: &Job, before: &Running, case: &Case) -> Found {
+fn within_memories(job: &Job, before: &Running, after: &Running) -> bool {
     let rules = Rules::new(job);
-    for (i, record) in job.records.iter().enumerate() {
-        let node = i + 1;
-        let own = case.tree.carried[node];
+    job.records.iter().zip(1..).all(|(record, node)| {
+        let own = after.carried[node];
         let children = (1..=job.records.len())
             .filter(|&child| usize::from(job.records[child - 1].parent) == node);
         let out = children
-            .map(|child| case.tree.carried[child])
+            .map(|child| after.carried[child])
             .min()
-            .unwrap_or_else(|| rules.played(node, case.tree.slot as usize));
-        let kept = own >= before.carried[node] && own >= out && own - out <= record.memory;
-        expect("held within the memory", 1, u64::from(kept), case)?;
-    }
-    Ok(())
+            .unwrap_or_else(|| rules.played(node, after.slot as usize));
+        own >= before.carried[node] && own >= out && own - out <= record.memory
+    })
 }
 
 /// The first three examples, run to the end; their plans are the document's.
-fn examples(_: &mut Rng, steps: &mut Steps) -> Found {
+fn examples(_: &mut Rng) -> Vec<Case> {
     let [first, second, third, ..] = example_jobs();
     let rows: [(Job, &[u64]); 3] = [
         (first, &[0, 7, 14, 15, 0, 7, 14, 15, 0, 7, 14, 15]),
@@ -233,15 +137,12 @@ fn examples(_: &mut Rng, steps: &mut Steps) -> Found {
             &[0, 7, 14, 15, 15, 0, 4, 14, 15, 15, 0, 5, 10, 14, 15],
         ),
     ];
-    for (job, rows) in rows {
+    let run = |(job, rows): (Job, &[u64])| {
         let plan = plan_of(&job).unwrap_or_default();
-        let case = Case::new(job.clone(), Running::start(), plan.clone());
-        let same = u64::from(plan == rows);
-        expect("the plan is the document's", 1, same, &case)?;
-        let last = Rules::new(&job).last_slot();
-        run_plan(&job, plan, last, DONE, steps)?;
-    }
-    Ok(())
+        assert_eq!(plan, rows, "the plan is the document's");
+        run_plan(&job, plan, Rules::new(&job).last_slot(), DONE)
+    };
+    rows.into_iter().flat_map(run).collect()
 }
 
 /// A slot number, carried bytes and a column.
@@ -249,9 +150,9 @@ type Column = (u64, [u64; 3], [u64; 3]);
 
 /// Tree Q with a column that breaks a rule in one way, for each way, by hand. The
 /// memories are 4, 0, 6; 14 and 4 bytes are played by slot 2, 15 and 15 by slot 4.
-fn each_breach(rng: &mut Rng, steps: &mut Steps) -> Found {
+fn each_breach(rng: &mut Rng) -> Vec<Case> {
     let [_, _, job, ..] = example_jobs();
-    let cases: [(Breach, Column, &[u64]); 9] = [
+    let columns: [(Breach, Column, &[u64]); 9] = [
         (Breach::Falls, (1, [15, 4, 5], [14, 14, 10]), &[1]),
         (Breach::Falls, (1, [7, 4, 11], [14, 14, 10]), &[3]),
         (Breach::Passes, (3, [15, 15, 14], [16, 15, 15]), &[1]),
@@ -262,7 +163,7 @@ fn each_breach(rng: &mut Rng, steps: &mut Steps) -> Found {
         (Breach::ParentAhead, (1, [0, 0, 0], [14, 14, 4]), &[1, 3]),
         (Breach::ParentAhead, (0, [0, 0, 0], [5, 4, 0]), &[1, 3]),
     ];
-    for (breach, (slot, carried, column), links) in cases {
+    let case = |(breach, (slot, carried, column), links): (_, Column, &[u64])| {
         let mut case = drawn(&job, slot, &column, rng);
         case.tree.carried[1..4].copy_from_slice(&carried);
         let Due::Broken(breaches) = due(&case) else {
@@ -270,11 +171,9 @@ fn each_breach(rng: &mut Rng, steps: &mut Steps) -> Found {
         };
         let by_hand: Vec<_> = links.iter().map(|&link| (breach, link)).collect();
         assert_eq!(breaches, by_hand, "the model against the column by hand");
-        let link = steps.known(&case, BROKEN)?.link;
-        let named = u64::from(links.contains(&link));
-        expect("the link is one by hand", 1, named, &case)?;
-    }
-    Ok(())
+        case.known(BROKEN)
+    };
+    columns.into_iter().map(case).collect()
 }
 
 /// A job at this slot number with this next column, where it has one. All else in
@@ -304,79 +203,68 @@ fn wrong(right: usize) -> [usize; 3] {
 /// Refusals where later numbers apply too: those of the bytes with wrong lengths
 /// and any slot, a wrong length with slots past the last and broken columns, done
 /// with broken columns.
-fn refusals(rng: &mut Rng, steps: &mut Steps) -> Found {
+fn refusals(rng: &mut Rng) -> Vec<Case> {
     let [_, _, job, ..] = example_jobs();
     let last = Rules::new(&job).last_slot() as u64;
-    let slots = [0, 1, last - 1, last, last + 1, 1 << 63, u64::MAX];
-    for slot in slots {
+    let mut cases = Vec::new();
+    for slot in [0, 1, last - 1, last, last + 1, 1 << 63, u64::MAX] {
         let case = drawn(&job, slot, &[u64::MAX; 3], rng);
         let number = if slot < last { BROKEN } else { DONE };
-        steps.known(&case, number)?;
+        cases.push(case.known(number));
         let mut kept = drawn(&job, slot, &[15, 15, 15], rng);
         kept.tree.carried[1..4].fill(0);
         let number = if slot == last - 1 { TAKEN } else { number };
-        steps.known(&kept, number)?;
-
+        cases.push(kept.known(number));
         for case in [case, kept] {
-            for length in wrong(case.plan.len()) {
-                let mut case = case.clone();
-                case.plan.resize(length, 7);
-                steps.known(&case, WRONG_LENGTH)?;
-            }
-            for length in wrong(case.sent) {
-                let sent = length;
-                steps.known(
-                    &Case {
-                        sent,
-                        ..case.clone()
-                    },
-                    WRONG_LENGTH,
-                )?;
-                let held = length;
-                steps.known(
-                    &Case {
-                        held,
-                        ..case.clone()
-                    },
-                    WRONG_LENGTH,
-                )?;
-                steps.known(
-                    &Case {
-                        sent,
-                        held,
-                        ..case.clone()
-                    },
-                    WRONG_LENGTH,
-                )?;
-            }
-            for number in 1..=10 {
-                let bytes = with_faults(job.clone(), &[number], rng);
-                let mut case = Case {
-                    bytes,
-                    job: None,
-                    ..case.clone()
-                };
-                steps.known(&case, number)?;
-                case.plan.truncate(rng.index(case.plan.len()));
-                (case.sent, case.held) = (rng.index(6), rng.index(6));
-                steps.known(&case, number)?;
-            }
+            cases.extend(wrong_lengths(&case));
+            cases.extend(refused(&case, &job, rng));
         }
     }
-    Ok(())
+    cases
+}
+
+/// A step with its plan, one of its rows or both of wrong lengths.
+fn wrong_lengths(case: &Case) -> Vec<Case> {
+    let case = case.known(WRONG_LENGTH);
+    let mut cases = Vec::new();
+    for length in wrong(case.plan.len()) {
+        let mut case = case.clone();
+        case.plan.resize(length, 7);
+        cases.push(case);
+    }
+    for length in wrong(case.sent) {
+        for (sent, held) in [(length, case.held), (case.sent, length), (length, length)] {
+            let case = case.clone();
+            cases.push(Case { sent, held, ..case });
+        }
+    }
+    cases
+}
+
+/// A step with each fault of the bytes, and with wrong lengths besides.
+fn refused(case: &Case, job: &Job, rng: &mut Rng) -> Vec<Case> {
+    let mut cases = Vec::new();
+    for number in 1..=10 {
+        let mut case = case.known(number);
+        case.bytes = with_faults(job.clone(), &[number], rng);
+        case.job = None;
+        cases.push(case.clone());
+        case.plan.truncate(rng.index(case.plan.len()));
+        (case.sent, case.held) = (rng.index(6), rng.index(6));
+        cases.push(case);
+    }
+    cases
 }
 
 /// Small jobs of each tree of 2 to 4 nodes with each plan of small numbers. A
 /// plan is taken to the slot before the first that breaks a rule, where column 0
 /// stands for zeros, which it does not hold.
-fn foreign(rng: &mut Rng, steps: &mut Steps) -> Found {
-    let (mut kept, mut broken) = (0, 0);
+fn foreign(rng: &mut Rng) -> Vec<Case> {
+    let (mut kept, mut broken, mut cases) = (0, 0, Vec::new());
     for job in foreign_jobs() {
         let rules = Rules::new(&job);
         let (last, links) = (rules.last_slot(), job.records.len());
-        let most = rules.total() + 1;
-        let mut numbers = vec![0; links * last];
-        loop {
+        for numbers in each_list(links * last, rules.total() + 1) {
             let plan: Vec<u64> = numbers
                 .chunks(last)
                 .flat_map(|row| std::iter::once(rng.word()).chain(row.iter().copied()))
@@ -385,22 +273,16 @@ fn foreign(rng: &mut Rng, steps: &mut Steps) -> Found {
                 0 => 0,
                 _ => numbers[i * last + slot - 1],
             };
-            match rules.broken(last + 1, at) {
+            cases.extend(match rules.broken(last + 1, at) {
                 None => {
                     kept += 1;
-                    run_plan(&job, plan, last, DONE, steps)?;
+                    run_plan(&job, plan, last, DONE)
                 }
                 Some(slot) => {
                     broken += 1;
-                    run_plan(&job, plan, slot - 1, BROKEN, steps)?;
+                    run_plan(&job, plan, slot - 1, BROKEN)
                 }
-            }
-            // The next plan, as one counts.
-            let Some(place) = numbers.iter().position(|&number| number < most) else {
-                break;
-            };
-            numbers[..place].fill(0);
-            numbers[place] += 1;
+            });
         }
     }
     println!("foreign plans: {kept} keep the rules, {broken} break one");
@@ -408,7 +290,18 @@ fn foreign(rng: &mut Rng, steps: &mut Steps) -> Found {
         kept >= LEAST_FOREIGN && broken >= LEAST_FOREIGN,
         "foreign plans of both sorts, at least {LEAST_FOREIGN} each"
     );
-    Ok(())
+    cases
+}
+
+/// Each list of `length` numbers up to `most`, as one counts, the first place fastest.
+fn each_list(length: usize, most: u64) -> impl Iterator<Item = Vec<u64>> {
+    std::iter::successors(Some(vec![0; length]), move |numbers| {
+        let place = numbers.iter().position(|&number| number < most)?;
+        let mut next = numbers.clone();
+        next[..place].fill(0);
+        next[place] += 1;
+        Some(next)
+    })
 }
 
 /// Trees, as the parents of their nodes, films, and the greatest memory and delay.
@@ -419,20 +312,10 @@ type Family = (
     u16,
 );
 
-const TREES_OF_3: [&[u8]; 2] = [&[0, 0], &[0, 1]];
-const TREES_OF_4: [&[u8]; 6] = [
-    &[0, 0, 0],
-    &[0, 0, 1],
-    &[0, 0, 2],
-    &[0, 1, 0],
-    &[0, 1, 1],
-    &[0, 1, 2],
-];
-
 const FAMILIES: [Family; 7] = [
-    (&[&[0]], &[&[0], &[1], &[3]], 3, 1),
+    (&TREES_OF_2, &[&[0], &[1], &[3]], 3, 1),
     (
-        &[&[0]],
+        &TREES_OF_2,
         &[&[0, 1], &[1, 0], &[1, 1], &[2, 1], &[1, 2]],
         3,
         1,
@@ -488,27 +371,30 @@ fn each_record(parents: &[u8], frames: &[u32], memory: u64, delay: u16) -> Vec<J
 }
 
 /// Random jobs whose plans, given by the library, are run to the end.
-fn planned(rng: &mut Rng, steps: &mut Steps) -> Found {
+fn planned(rng: &mut Rng) -> Vec<Case> {
+    let mut cases = Vec::new();
     for _ in 0..PLANNED {
         let job = trees::small_job(rng);
         if let Some(plan) = plan_of(&job) {
             let last = Rules::new(&job).last_slot();
-            run_plan(&job, plan, last, DONE, steps)?;
+            cases.extend(run_plan(&job, plan, last, DONE));
         }
     }
-    Ok(())
+    cases
 }
 
 /// The most nodes and frames and the greatest delay: the plan's first steps, its
 /// last one and done; and columns that fit and do not.
-fn largest(rng: &mut Rng, steps: &mut Steps) -> Found {
+fn largest(rng: &mut Rng) -> Vec<Case> {
     let job = trees::largest(rng);
     let (plan, links) = lengths(&job);
     let slots = plan / links;
     let plan = plan_of(&job).expect("the largest job has a plan");
     let mut case = Case::new(job, Running::start(), plan);
+    let mut cases = Vec::new();
     for _ in 0..2 {
-        case.tree = steps.known(&case, TAKEN)?.tree;
+        cases.push(case.known(TAKEN));
+        case.tree = case.after();
     }
     for slot in [slots / 2, slots - 2] {
         case.tree.slot = slot as u64;
@@ -516,15 +402,14 @@ fn largest(rng: &mut Rng, steps: &mut Steps) -> Found {
             case.tree.carried[link] = case.plan[(link - 1) * slots + slot];
         }
         let node = 1 + rng.index(links);
-        let next = (node - 1) * slots + slot + 1;
-        let right = case.plan[next];
-        case.plan[next] = u64::MAX;
-        steps.known(&case, BROKEN)?;
-        case.plan[next] = right;
-        case.tree = steps.known(&case, TAKEN)?.tree;
+        let mut broken = case.known(BROKEN);
+        broken.plan[(node - 1) * slots + slot + 1] = u64::MAX;
+        cases.push(broken);
+        cases.push(case.known(TAKEN));
+        case.tree = case.after();
     }
-    steps.known(&case, DONE)?;
-    Ok(())
+    cases.push(case.known(DONE));
+    cases
 }
 
 /// A random job whose memories are not yet drawn.
@@ -708,11 +593,7 @@ fn faulty(i: u64, rng: &mut Rng) -> Case {
         _ => wrong_length(rng.below(63), rng),
     };
     if let Some(job) = case.job.take() {
-        let first = 1 + i % 10;
-        let mut numbers = vec![first];
-        if first < 10 && rng.one_in(2) {
-            numbers.push(rng.within(first + 1..=10));
-        }
+        let numbers = one_or_two(1 + i % 10, rng);
         case.bytes = with_faults(job, &numbers, rng);
     }
     case

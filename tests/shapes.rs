@@ -27,6 +27,18 @@ pub const SHAPES: [Shape; 6] = [
     Shape::Random,
 ];
 
+/// Each tree of 2 to 4 nodes, as the parents of its nodes.
+pub const TREES_OF_2: [&[u8]; 1] = [&[0]];
+pub const TREES_OF_3: [&[u8]; 2] = [&[0, 0], &[0, 1]];
+pub const TREES_OF_4: [&[u8]; 6] = [
+    &[0, 0, 0],
+    &[0, 0, 1],
+    &[0, 0, 2],
+    &[0, 1, 0],
+    &[0, 1, 1],
+    &[0, 1, 2],
+];
+
 impl Shape {
     /// The parents of nodes 1 to `nodes` - 1.
     pub fn parents(self, nodes: usize, rng: &mut Rng) -> Vec<u8> {

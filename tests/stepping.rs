@@ -1,20 +1,17 @@
 //! One step of a running tree, held against an independent model of it.
 
-use std::collections::HashSet;
-use std::hash::{DefaultHasher, Hash, Hasher};
-
-use crate::compare::Mismatch;
 use crate::job::Job;
 use crate::lending::Lent;
 use crate::library::{step, Running, StepNumbers};
+use crate::problem::{equal, holds, same, Problem};
 use crate::reader;
+use crate::section::Tally;
 
 /// The numbers of a step that are not of the job's bytes.
 pub const TAKEN: u64 = 0;
 pub const WRONG_LENGTH: u64 = 11;
 pub const BROKEN: u64 = 14;
 pub const DONE: u64 = 100;
-const NUMBERS: usize = 101;
 
 /// A job, or bytes that are none, with a running tree, a plan and the lengths of
 /// the lent rows.
@@ -26,6 +23,8 @@ pub struct Case {
     pub plan: Vec<u64>,
     pub sent: usize,
     pub held: usize,
+    /// The number, where the generator knows it.
+    pub known: Option<u64>,
 }
 
 impl Case {
@@ -39,6 +38,24 @@ impl Case {
             plan,
             sent: links,
             held: links,
+            known: None,
+        }
+    }
+
+    /// The same case, whose number is known.
+    pub fn known(&self, number: u64) -> Self {
+        let known = Some(number);
+        Case {
+            known,
+            ..self.clone()
+        }
+    }
+
+    /// The tree after the step, by the model.
+    pub fn after(&self) -> Running {
+        match due(self) {
+            Due::Taken { tree, .. } => *tree,
+            _ => self.tree,
         }
     }
 }
@@ -60,14 +77,19 @@ pub enum Breach {
     ParentAhead,
 }
 
-pub const BREACHES: [Breach; 6] = [
-    Breach::Falls,
-    Breach::Passes,
-    Breach::Starves,
-    Breach::Overflows,
-    Breach::ChildAhead,
-    Breach::ParentAhead,
-];
+impl Breach {
+    /// What is counted where a step breaks rules in this way alone.
+    fn alone(self) -> &'static str {
+        match self {
+            Breach::Falls => "falls, alone",
+            Breach::Passes => "passes all frames, alone",
+            Breach::Starves => "starves, alone",
+            Breach::Overflows => "overflows, alone",
+            Breach::ChildAhead => "child ahead, alone",
+            Breach::ParentAhead => "parent ahead, alone",
+        }
+    }
+}
 
 /// What the library's step gives, and the tree after it.
 #[derive(Clone, Copy, PartialEq, Eq)]
@@ -203,109 +225,28 @@ impl<'a> Slot<'a> {
     }
 }
 
-/// Counts of steps.
-#[derive(Clone)]
-pub struct Counts {
-    pub steps: u64,
-    /// Steps met for each number.
-    pub numbers: [u64; NUMBERS],
-    /// Steps with 14 in which rules are broken in one way alone, for each way.
-    pub alone: [u64; BREACHES.len()],
-}
-
-/// What has been stepped so far.
-pub struct Steps {
-    pub counts: Counts,
-    pub repeated: u64,
-    seen: HashSet<u64>,
-}
-
-/// What differs, the number expected and that got.
-type Problem = (String, u64, u64);
-
-impl Steps {
-    pub fn new() -> Self {
-        Steps {
-            counts: Counts {
-                steps: 0,
-                numbers: [0; NUMBERS],
-                alone: [0; BREACHES.len()],
-            },
-            repeated: 0,
-            seen: HashSet::new(),
-        }
-    }
-
-    /// Steps once, and compares all that the library gives with the model. A step
-    /// met before is not counted.
-    pub fn compare(&mut self, case: &Case) -> Result<StepAnswer, Mismatch> {
-        let due = due(case);
-        let answer = problem(case, &due).map_err(|problem| mismatch(problem, case))?;
-        let mut hasher = DefaultHasher::new();
-        (&case.bytes, &case.tree, &case.plan, case.sent, case.held).hash(&mut hasher);
-        if !self.seen.insert(hasher.finish()) {
-            self.repeated += 1;
-            return Ok(answer);
-        }
-        self.counts.steps += 1;
-        self.counts.numbers[due.number() as usize] += 1;
-        if let Due::Broken(breaches) = due {
-            for (count, breach) in self.counts.alone.iter_mut().zip(BREACHES) {
-                *count += u64::from(breaches.iter().all(|&(other, _)| other == breach));
-            }
-        }
-        Ok(answer)
-    }
-
-    /// As `compare`, of a step whose number is known.
-    pub fn known(&mut self, case: &Case, number: u64) -> Result<StepAnswer, Mismatch> {
-        let answer = self.compare(case)?;
-        expect("number known by construction", number, answer.number, case)?;
-        Ok(answer)
-    }
-}
-
-/// Whether `got` is what is expected of a case.
-pub fn expect(what: &str, expected: u64, got: u64, case: &Case) -> Result<(), Mismatch> {
-    equal(what, expected, got).map_err(|problem| mismatch(problem, case))
-}
-
-fn mismatch((what, expected, got): Problem, case: &Case) -> Mismatch {
-    Mismatch {
-        what: format!("step at slot number {}: {what}", case.tree.slot),
-        expected,
-        got,
-        bytes: case.bytes.clone(),
-    }
-}
-
-fn equal(what: &str, expected: u64, got: u64) -> Result<(), Problem> {
-    if expected == got {
-        return Ok(());
-    }
-    Err((what.to_string(), expected, got))
-}
-
-fn all_equal(what: &str, expected: &[u64], got: &[u64]) -> Result<(), Problem> {
-    let differ = |&at: &usize| expected.get(at) != got.get(at);
-    match (0..expected.len().max(got.len())).find(differ) {
-        None => Ok(()),
-        Some(at) => {
-            let value = |words: &[u64]| words.get(at).copied().unwrap_or(0);
-            let place = format!("{what} at place {at}");
-            Err((place, value(expected), value(got)))
-        }
-    }
-}
-
 /// Steps in two rounds, both of which must come to what is due and be the same.
-fn problem(case: &Case, due: &Due) -> Result<StepAnswer, Problem> {
+pub fn check(case: &Case, tally: &mut Tally) -> Result<(), Problem> {
+    let due = due(case);
+    if let Some(known) = case.known {
+        equal(
+            "independent number against the generator",
+            known,
+            due.number(),
+        )?;
+    }
     let (first, sent, held) = call(case, 0)?;
-    judge(case, due, &first, &sent, &held)?;
+    judge(case, &due, &first, &sent, &held)?;
     let (again, sent, held) = call(case, 1)?;
-    judge(case, due, &again, &sent, &held)?;
-    equal("same answer again", 1, u64::from(first == again))?;
-    Ok(first)
+    judge(case, &due, &again, &sent, &held)?;
+    holds("same answer again", first == again)?;
+    tally.value("number {}", due.number() as usize);
+    if let Due::Broken(breaches) = due {
+        let (breach, _) = breaches[0];
+        let alone = breaches.iter().all(|&(other, _)| other == breach);
+        tally.one_if(breach.alone(), alone);
+    }
+    Ok(())
 }
 
 /// Whether an answer and the rows after it are what is due.
@@ -322,14 +263,11 @@ fn judge(
         _ => &case.tree,
     };
     equal("slot number handed on", tree.slot, got.tree.slot)?;
-    all_equal("carried bytes", &tree.carried, &got.tree.carried)?;
+    same("carried bytes, place", 0, &tree.carried, &got.tree.carried)?;
     match due {
         Due::Broken(breaches) => {
             let allowed = breaches.iter().any(|&(_, link)| link == got.link);
-            let what = "link named, of which this is one";
-            if !allowed {
-                equal(what, breaches[0].1, got.link)?;
-            }
+            holds(&format!("link {} breaks a rule", got.link), allowed)?;
         }
         _ => equal("link", 0, got.link)?,
     }
@@ -339,12 +277,12 @@ fn judge(
             held: due_held,
             ..
         } => {
-            all_equal("sent bytes", due_sent, sent.held())?;
-            all_equal("held bytes", due_held, held.held())
+            same("sent bytes of link", 1, due_sent, sent.held())?;
+            same("held bytes of node", 1, due_held, held.held())
         }
         _ => {
             let untouched = sent.untouched() && held.untouched();
-            equal("rows kept where none is taken", 1, u64::from(untouched))
+            holds("rows kept where none is taken", untouched)
         }
     }
 }
@@ -367,13 +305,10 @@ fn call(case: &Case, round: usize) -> Result<(StepAnswer, Lent<u64>, Lent<u64>),
     );
 
     let guards = sent.guards_kept() && held.guards_kept();
-    equal("guard words of the rows kept", 1, u64::from(guards))?;
-    let guards = u64::from(tree.guards_kept());
-    equal("guard words of the tree kept", 1, guards)?;
-    let kept = u64::from(job.untouched());
-    equal("the job's bytes and guards kept", 1, kept)?;
-    let kept = u64::from(plan.untouched());
-    equal("the plan's words and guards kept", 1, kept)?;
+    holds("guard words of the rows kept", guards)?;
+    holds("guard words of the tree kept", tree.guards_kept())?;
+    holds("the job's bytes and guards kept", job.untouched())?;
+    holds("the plan's words and guards kept", plan.untouched())?;
     let tree = Running::of(tree.held());
     Ok((StepAnswer { number, link, tree }, sent, held))
 }

@@ -1,7 +1,7 @@
 //! Jobs for the memory question.
 
 use crate::asking::{lengths, Case};
-use crate::faults::with_faults;
+use crate::faults::{one_or_two, with_faults};
 use crate::job::{
     Job, Record, GREATEST_AMOUNT, GREATEST_DELAY, GREATEST_FRAME, MOST_FRAMES, MOST_NODES,
 };
@@ -156,10 +156,7 @@ pub fn faulty(i: u64, rng: &mut Rng) -> Case {
     let (plan, peaks) = lengths(&job);
     // Twice as many of 1, as its short strings repeat.
     let first = 1 + i % 11 % 10;
-    let mut numbers = vec![first];
-    if first < 10 && rng.one_in(2) {
-        numbers.push(rng.within(first + 1..=10));
-    }
+    let numbers = one_or_two(first, rng);
     let bytes = with_faults(job, &numbers, rng);
     if rng.one_in(2) {
         return Case::broken(bytes, plan, peaks);

@@ -6,7 +6,7 @@ use Prim.Native.Nat.{ℕ, zero, suc, _+_, _-_, _*_, _≤_, _<_, max, min}
 use native.Mathlib.Nat.{suc-mul, add-zero, add-suc}
 use native.Mathlib.Omega.{arith}
 use Rattle.base.specs.Range.{sum, sumOver, some, first, fold, greatest, greatestOver, leastOver}
-use Rattle.base.proofs.BoolLaws.{true-or-false, not-both, or-no-left, or-no-right, or-cases, lt-or-le, last-or-below}
+use Rattle.base.proofs.BoolLaws.{true-or-false, not-both, or-no-left, or-no-right, or-cases, cond-both, lt-or-le, last-or-below}
 
 -- ---- sums
 
@@ -230,6 +230,34 @@ first-is p (suc n) r h t f =
         (λ (l : n ≤ r). let q : r ≡ n = omega arith in rw q u)
         (lt-or-le r n))))
         (lt-or-le n r)
+
+-- where one passes, the first is no later and passes
+pub first-least : (p : ℕ → Bool) (n i : ℕ) → i < n → p i ≡ true → (first p n ≤ i) × (p (first p n) ≡ true)
+unfolding first
+first-least p zero i h u = absurd (omega arith)
+first-least p (suc n) i h u = go (first-least p n) (true-or-false (some p n)) (last-or-below i n h)
+  where
+    go : ((x : ℕ) → x < n → p x ≡ true → (first p n ≤ x) × (p (first p n) ≡ true)) → (some p n ≡ true) ⊎ (some p n ≡ false)
+        → (i ≡ n) ⊎ (i < n)
+        → (cond (some p n) (first p n) (cond (p n) n (suc n)) ≤ i) × (p (cond (some p n) (first p n) (cond (p n) n (suc n))) ≡ true)
+    go ih (inl e) (inl q) = let (x, l, v) = which-passes p n e in rw e (omega (arith, ih x l v .0), ih x l v .1)
+    go ih (inl e) (inr l) = rw e (ih i l u)
+    go ih (inr e) (inl q) = let own : p n ≡ true = rw q at u in rw (e, own) (omega arith, own)
+    go ih (inr e) (inr l) = absurd (not-both u (none-passes p n e i l))
+
+pub first-passes : (p : ℕ → Bool) (n : ℕ) → first p n < n → p (first p n) ≡ true
+first-passes p n h =
+    ⊎-elim
+    (λ (e : some p n ≡ true). let (i, l, u) = which-passes p n e in first-least p n i l u .1)
+    (λ (e : some p n ≡ false). absurd (omega (arith, first-is p n n (omega arith) (λ q. absurd (omega arith)) (none-passes p n e))))
+    (true-or-false (some p n))
+
+pub first-under : (p : ℕ → Bool) (n : ℕ) → first p n ≤ n
+unfolding first
+first-under p zero = omega arith
+first-under p (suc n) =
+    cond-both (some p n) (λ x. x ≤ suc n) _ _ (λ e. omega (arith, first-under p n))
+    (λ e. cond-both (p n) (λ x. x ≤ suc n) _ _ (λ u. omega arith) (λ u. omega arith))
 
 -- a number that is no greater than any of them is no greater than the least
 pub leastOver-above : (p : ℕ → Bool) (f : ℕ → ℕ) (n m : ℕ) → some p n ≡ true → ((i : ℕ) → i < n → p i ≡ true → m ≤ f i) → m ≤ leastOver p f n

@@ -219,10 +219,13 @@ read-holds s h =
       rates = λ i q. perNode-past _ _ i (omega arith);
     })
 
--- what a caller learns from a reading whose refusal is 0
+-- what a caller learns from a reading: its number, and where that is 0, the job
+pub read-number : (s : List ℕ) (r : Reading) → r ≡ readOf s → r .refusal ≡ refusal s
+read-number s r e = ap (λ (x : Reading). x .refusal) e ∙ refusedOr-number (refusal s) (structOf (treeOf s) (frameCount s))
+
 pub read-is : (s : List ℕ) (r : Reading) → r ≡ readOf s → r .refusal ≡ 0 → (refusal s ≡ 0) × (r .job ≡ structOf (treeOf s) (frameCount s))
 read-is s r e h =
-    let z : refusal s ≡ 0 = sym (refusedOr-number (refusal s) (structOf (treeOf s) (frameCount s))) ∙ sym (ap (λ (x : Reading). x .refusal) e) ∙ h in
+    let z : refusal s ≡ 0 = sym (read-number s r e) ∙ h in
     (z, ap (λ (x : Reading). x .job) e ∙ rw z refl)
 
 pub read-accepts : (s : List ℕ) (r : Reading) → r ≡ readOf s → r .refusal ≡ 0 → Accepted s (r .job)

@@ -25,6 +25,11 @@ film-of l h = record {
   under = λ m. h .grows (min m (length l - 1)) (length l - 1) (omega arith) (omega (arith, h .some-sum));
 }
 
+-- and end with T(M)
+pub film-to : (l : List ℕ) → HoldsSums l → (M : ℕ) → length l ≡ M + 1 → Film (sumsIn l) (sumsIn l M)
+unfolding sumsIn lastIn
+film-to l h M long = let e : min M (length l - 1) ≡ length l - 1 = omega arith in rw e (film-of l h)
+
 -- a number of the slice is T at its place
 pub sum-at : (l : List ℕ) (m : ℕ) → m < length l → getD l m 0 ≡ sumsIn l m
 unfolding sumsIn

@@ -7,9 +7,8 @@ use borrow.Author.Needs.{needs}
 use Rattle.planner.proofs.AnswerLaws.{early-read, early-plan, early-peaks, answered}
 use Rattle.planner.specs.Work.{widthOf}
 use Rattle.planner.specs.Answer.{Answers}
-use Rattle.job.proofs.RefusalLaws.{read-accepts, refusedOr-number}
+use Rattle.job.proofs.RefusalLaws.{read-accepts, read-number}
 use Rattle.job.specs.Read.{Accepted}
-use Rattle.job.specs.declared.Reading.{Reading}
 use Rattle.job.specs.Refusal.{refusal}
 use Rattle.job.specs.Bytes.{frameAt, jobOf}
 use Rattle.job.specs.Tree.{Tree, H, planLength}
@@ -18,7 +17,7 @@ use Rattle.planner.proofs.memory_question.Tie as tie
 
 -- the reader's number is that of the definition
 number-is : (c : tie.After-read) → c .read .result .refusal ≡ refusal (c .before .before .before .before .args .bytes .now)
-number-is c = ap (λ (r : Reading). r .refusal) (c .read .ensures) ∙ refusedOr-number _ _
+number-is c = read-number _ _ (c .read .ensures)
 
 -- past the first test the job is accepted
 accepted : (c : tie.Else1) → Accepted (c .before .before .before .before .before .before .args .bytes .now) (c .before .before .read .result .job)

@@ -4,14 +4,13 @@ use mathlib.Core.Path.{_≡_, refl, ap, sym, _∙_}
 use Prim.Native.Nat.{ℕ, _+_, _-_, _*_, _≤_}
 use native.Mathlib.Omega.{arith}
 use borrow.Author.Needs.{needs}
-use Rattle.job.specs.Bytes.{frameAt, frameCount, treeOf, jobOf}
+use Rattle.job.specs.Bytes.{frameAt, jobOf}
 use Rattle.job.specs.Limits.{mostFrames}
-use Rattle.job.specs.Read.{structOf, treeIn, Accepted}
+use Rattle.job.specs.Read.{treeIn, Accepted}
 use Rattle.job.specs.Refusal.{refusal}
 use Rattle.job.specs.Tree.{Tree, TreeWithin, link, H, planLength}
 use Rattle.job.specs.declared.Job.{Job}
-use Rattle.job.specs.declared.Reading.{Reading}
-use Rattle.job.proofs.RefusalLaws.{refusedOr-number, read-accepts}
+use Rattle.job.proofs.RefusalLaws.{read-number, read-accepts}
 use Rattle.job.proofs.TreeLaws.{link-is, link-past}
 use Rattle.planner.proofs.PlaceLaws.{refused-nowhere, no-link-nowhere, no-plan-nowhere, place-is, row-inside}
 use Rattle.planner.proofs.row_place.Statement.{statement}
@@ -77,7 +76,7 @@ returns : tie.Need-returns
 returns c =
     let r = c .before .before in
     let s = r .before .before .args .bytes .now in
-    let number : r .read .result .refusal ≡ refusal s = ap (λ (x : Reading). x .refusal) (r .read .ensures) ∙ refusedOr-number _ (structOf (treeOf s) (frameCount s)) in
+    let number : r .read .result .refusal ≡ refusal s = read-number s _ (r .read .ensures) in
     refused-nowhere s _ _ (λ z. c .if1 .taken (number ∙ z))
 
 returns-2 : tie.Need-returns-2

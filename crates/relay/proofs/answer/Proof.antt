@@ -7,8 +7,7 @@ use Rattle.io.proofs.Counting.{counts}
 use Rattle.job.specs.Tree.{Tree, planLength}
 use Rattle.job.specs.Bytes.{frameAt, jobOf}
 use Rattle.job.specs.Refusal.{refusal}
-use Rattle.job.specs.declared.Reading.{Reading}
-use Rattle.job.proofs.RefusalLaws.{read-accepts, refusedOr-number}
+use Rattle.job.proofs.RefusalLaws.{read-accepts, read-number}
 use Rattle.job.specs.Read.{Accepted}
 use Rattle.relay.specs.Text.{line}
 use Rattle.relay.proofs.PrintedLaws.{too-long, refused-job, too-large, asked}
@@ -21,7 +20,7 @@ accepted c = read-accepts (c .before .before .before .before .before .before .ar
 
 -- the reader's number is that of the definition
 number-is : (c : tie.After-read) → c .read .result .refusal ≡ refusal (c .before .before .before .before .args .bytes .now)
-number-is c = ap (λ (r : Reading). r .refusal) (c .read .ensures) ∙ refusedOr-number _ _
+number-is c = read-number _ _ (c .read .ensures)
 
 length-is : (c : tie.After-plan-length) → c .plan-length .result ≡ planLength (jobOf (c .before .before .before .before .before .before .before .before .args .bytes .now))
 length-is c = c .plan-length .ensures (frameAt (c .before .before .before .before .before .before .before .before .args .bytes .now)) ∙ ap planLength (accepted (c .before .before) .same)

@@ -5,8 +5,7 @@ use lib.ListN.{length}
 use borrow.Author.Needs.{needs}
 use Rattle.job.specs.Bytes.{nodeCount}
 use Rattle.job.specs.Tree.{Tree, leaf}
-use Rattle.job.specs.declared.Reading.{Reading}
-use Rattle.job.proofs.RefusalLaws.{read-accepts, refusedOr-number}
+use Rattle.job.proofs.RefusalLaws.{read-accepts, read-number}
 use Rattle.job.specs.Read.{Accepted}
 use Rattle.writing.proofs.PutLaws.{put-job, put-length, put-delay, put-memory, put-done}
 use Rattle.writing.proofs.put_back.Statement.{statement}
@@ -30,7 +29,7 @@ returns c =
     let r = c .before .before .read in
     let st = c .before .before .before .before .before .before in
     put-job (st .args .bytes .now) (st .args .w) (st .args .memories .now) (r .result .refusal)
-    (ap (λ (x : Reading). x .refusal) (r .ensures) ∙ refusedOr-number _ _) (c .if1 .taken)
+    (read-number _ _ (r .ensures)) (c .if1 .taken)
 
 same-length-2 : tie.Need-same-length-2
 same-length-2 c = search needs

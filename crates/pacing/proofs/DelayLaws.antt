@@ -1,5 +1,6 @@
 -- The least delay in time, found frame by frame.
 use mathlib.Core.Bool.{Bool, true, false, not}
+use mathlib.Core.List.{List}
 use mathlib.Core.Path.{_≡_, refl}
 use mathlib.Core.Logic.{⊎-elim}
 use Prim.Native.Nat.{ℕ, _+_, _-_, _*_, _≤_, _<_, min}
@@ -10,12 +11,19 @@ use lib.Dec.{ltb}
 use borrow.Author.Tests.{le-ltb, ltb-false}
 use Rattle.base.specs.Range.{some}
 use Rattle.base.proofs.BoolLaws.{not-both, otherwise, lt-or-le, last-or-below}
-use Rattle.base.proofs.RangeLaws.{none-passes, all-fail, first-is}
+use Rattle.base.proofs.RangeLaws.{none-passes, all-fail, first-is, first-least, first-passes, first-under}
 use Rattle.job.specs.Limits.{longestDelay}
+use Rattle.job.specs.Sums.{WithSums}
+use Rattle.job.specs.declared.Job.{Job}
 use Rattle.smoothing.specs.Row.{ceilDiv}
 use Rattle.smoothing.proofs.RowLaws.{ceilDiv-covers, ceilDiv-least}
-use Rattle.pacing.specs.Pace.{inTime, delayAt}
+use Rattle.pacing.specs.Pace.{FilmSums, inTime, delayAt}
 use Rattle.pacing.specs.Work.{DelayForSlot, DelayBefore}
+
+-- ---- the sums of a job's film
+
+pub film-sums : (job : Job) (sums : List ℕ) → WithSums job sums → FilmSums sums
+film-sums job sums with = record { holds = with .film; frames-to = omega (arith, with .long, with .frames-to) }
 
 -- ---- what it is to be in time
 
@@ -34,6 +42,21 @@ module _ (r M : ℕ) (T : ℕ → ℕ) (w : ℕ) where
   pub each-in-time : ((m : ℕ) → m ≤ M → T m ≤ r * (m + w)) → inTime r M T w ≡ true
   unfolding inTime slow
   each-in-time each = rw (all-fail slow (M + 1) (λ m l. le-ltb (r * (m + w)) (T m) (each m (omega arith)))) refl
+
+-- ---- the least delay in time
+
+module _ (r M : ℕ) (T : ℕ → ℕ) where
+  -- no delay that is in time is less
+  pub delay-least : (w : ℕ) → inTime r M T w ≡ true → delayAt r M T ≤ w
+  delay-least w e =
+      ⊎-elim
+      (λ (l : w < longestDelay + 1). first-least (inTime r M T) (longestDelay + 1) w l e .0)
+      (λ (l : longestDelay + 1 ≤ w). omega (arith, first-under (inTime r M T) (longestDelay + 1)))
+      (lt-or-le w (longestDelay + 1))
+
+  -- up to the longest it is in time
+  pub delay-in-time : delayAt r M T ≤ longestDelay → inTime r M T (delayAt r M T) ≡ true
+  delay-in-time h = first-passes (inTime r M T) (longestDelay + 1) (omega arith)
 
 -- ---- one frame
 
@@ -118,4 +141,15 @@ module _ (T : ℕ → ℕ) (r : ℕ) where
         d .to,
         d .least y (omega (arith, d .to))
             (λ i l. in-time-each r M T y u i (omega arith)),
+      )))
+
+  -- where none up to the longest is in time for some slots, none is for all
+  pub delay-before-never : (M m w : ℕ) → m ≤ M + 1 → longestDelay < w → DelayBefore T r m w → w ≡ delayAt r M T
+  delay-before-never M m w h past d =
+      first-is (inTime r M T) (longestDelay + 1) w (d .to) (λ l. absurd (omega arith))
+      (λ y l. otherwise (inTime r M T y) (λ u. omega (
+        arith,
+        d .to,
+        d .least y (omega (arith, d .to))
+            (λ i k. in-time-each r M T y u i (omega arith)),
       )))

@@ -35,6 +35,10 @@ inTime r M T w = not (some (λ m. ltb (r * (m + w)) (T m)) (M + 1))
 abbrev pub delayAt : ℕ → ℕ → (ℕ → ℕ) → ℕ
 delayAt r M T = first (inTime r M T) (longestDelay + 1)
 
+-- the number of an answer where none is
+abbrev pub noDelay : ℕ
+noDelay = 13
+
 -- ---- the need
 
 -- how far what is played by m is ahead of what a link at rate r has carried by then, if it never carried more than was played: each slot

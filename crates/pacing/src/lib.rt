@@ -52,12 +52,15 @@ fn delay_for_slots(sums: &[u64], r: u64, m: usize, to: usize, w: u64) -> u64
 const STRETCH: usize = 64;
 
 // The end of a stretch of slots from m on.
-fn stretch_end(m: usize, length: usize) -> usize
+pub fn stretch_end(m: usize, length: usize) -> usize
     requires { ⌜ (m < length) × (length ≤ mostFrames + 1) ⌝ }
     ensures { λ to. ⌜ (m < to) × (to ≤ length) ⌝ }
 {
     base::min_usize(m + STRETCH, length)
 }
+
+// The number of an answer where no delay up to the longest is in time.
+pub const NO_DELAY: u64 = 13;
 
 // The least delay that is in time at rate r; one more than the longest where none up to that is.
 pub fn start_delay(sums: &[u64], r: u64) -> u64
@@ -69,6 +72,9 @@ pub fn start_delay(sums: &[u64], r: u64) -> u64
     while m < sums.len() {
         let to = stretch_end(m, sums.len());
         w = delay_for_slots(sums, r, m, to, w);
+        if w > Node::LONGEST_DELAY as u64 {
+            return w;
+        }
         m = to;
     }
     w

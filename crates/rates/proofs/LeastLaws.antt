@@ -1,16 +1,15 @@
 -- Demand 3 of the rate question: the delay is the least that serves, the memories are the least with which it serves, and put back they
 -- are answered with a plan within the rates.
-use mathlib.Core.Bool.{Bool, true, false, cond}
+use mathlib.Core.Bool.{true, false, cond}
 use mathlib.Core.List.{List}
 use mathlib.Core.Path.{_≡_, refl, ap, sym, fun-ext, _∙_}
-use mathlib.Core.Logic.{_⊎_, inl, inr, ⊎-elim}
+use mathlib.Core.Logic.{⊎-elim}
 use Prim.Native.Nat.{ℕ, zero, suc, _+_, _-_, _≤_, _<_}
 use native.Mathlib.Omega.{arith}
 use lib.Dec.{eqb}
 use lib.ListN.{length, getD}
-use Rattle.base.specs.Range.{some, first}
-use Rattle.base.proofs.BoolLaws.{true-or-false, not-both, or-cases, cond-both, lt-or-le, last-or-below}
-use Rattle.base.proofs.RangeLaws.{sumOver-monotone, none-passes, which-passes, first-is}
+use Rattle.base.proofs.BoolLaws.{true-or-false, or-cases, cond-both}
+use Rattle.base.proofs.RangeLaws.{sumOver-monotone}
 use Rattle.base.proofs.TableLaws.{getD-tab}
 use borrow.Author.Tests.{eqb-true}
 use Rattle.job.specs.Limits.{longestDelay, greatestMemory}
@@ -36,30 +35,9 @@ use Rattle.planner.proofs.AnswerLaws.{early-none}
 use Rattle.writing.specs.PutBack.{answeredJob, memoriesIn}
 use Rattle.rates.specs.Rates.{Serves, atOrBelow, total, totalFrom, leastRate, startDelay, memory}
 use Rattle.pacing.specs.Pace.{inTime}
+use Rattle.pacing.proofs.DelayLaws as pacing
 use Rattle.rates.proofs.TheoryLaws.{question, good, in-time-fast, fast-in-time, memory-is, total-is, totalFrom-is}
 use Rattle.rates.proofs.ServeLaws.{serves-to, serves-from}
-
--- ---- the first that passes
-
-first-least : (p : ℕ → Bool) (n i : ℕ) → i < n → p i ≡ true → (first p n ≤ i) × (p (first p n) ≡ true)
-unfolding first
-first-least p zero i h u = absurd (omega arith)
-first-least p (suc n) i h u = go (first-least p n) (true-or-false (some p n)) (last-or-below i n h)
-  where
-    go : ((x : ℕ) → x < n → p x ≡ true → (first p n ≤ x) × (p (first p n) ≡ true)) → (some p n ≡ true) ⊎ (some p n ≡ false)
-        → (i ≡ n) ⊎ (i < n)
-        → (cond (some p n) (first p n) (cond (p n) n (suc n)) ≤ i) × (p (cond (some p n) (first p n) (cond (p n) n (suc n))) ≡ true)
-    go ih (inl e) (inl q) = let (x, l, v) = which-passes p n e in rw e (omega (arith, ih x l v .0), ih x l v .1)
-    go ih (inl e) (inr l) = rw e (ih i l u)
-    go ih (inr e) (inl q) = let own : p n ≡ true = rw q at u in rw (e, own) (omega arith, own)
-    go ih (inr e) (inr l) = absurd (not-both u (none-passes p n e i l))
-
-first-passes : (p : ℕ → Bool) (n : ℕ) → first p n < n → p (first p n) ≡ true
-first-passes p n h =
-    ⊎-elim
-    (λ (e : some p n ≡ true). let (i, l, u) = which-passes p n e in first-least p n i l u .1)
-    (λ (e : some p n ≡ false). absurd (omega (arith, first-is p n n (omega arith) (λ q. absurd (omega arith)) (none-passes p n e))))
-    (true-or-false (some p n))
 
 -- ---- memories that agree on the links
 
@@ -117,26 +95,18 @@ module _ (j : JobData) (within : JobWithin j) where
   pub delay-least : (w : ℕ) → w ≤ longestDelay → w ≡ startDelay (j .tree) (j .M) (T j) → (w′ : ℕ) (b′ : ℕ → ℕ) → Serves j w′ b′ → w ≤ w′
   unfolding startDelay
   delay-least w h e w′ b′ served =
-      ⊎-elim
-      (λ (l : w′ < longestDelay + 1). omega (
-        arith,
-        e,
-        first-least (inTime (leastRate (j .tree)) (j .M) (T j)) (longestDelay + 1) w′ l
-            (in-time w′ b′ served) .0,
-      ))
-      (λ (l : longestDelay + 1 ≤ w′). omega arith)
-      (lt-or-le w′ (longestDelay + 1))
+      omega (arith, e, pacing.delay-least (leastRate (j .tree)) (j .M) (T j) w′ (in-time w′ b′ served))
 
   -- where the first in time is past the longest, none serves
   pub none-serves : longestDelay < startDelay (j .tree) (j .M) (T j) → (w : ℕ) (b : ℕ → ℕ) → w ≤ longestDelay → Serves j w b → ⊥
   unfolding startDelay
   none-serves past w b h served =
-      omega (arith, first-least (inTime (leastRate (j .tree)) (j .M) (T j)) (longestDelay + 1) w (omega arith) (in-time w b served) .0)
+      omega (arith, pacing.delay-least (leastRate (j .tree)) (j .M) (T j) w (in-time w b served))
 
   module _ (w : ℕ) (fits : w ≤ longestDelay) (is-delay : w ≡ startDelay (j .tree) (j .M) (T j)) where
     first-in-time : inTime (leastRate (j .tree)) (j .M) (T j) w ≡ true
     unfolding startDelay
-    first-in-time = rw is-delay (first-passes (inTime (leastRate (j .tree)) (j .M) (T j)) (longestDelay + 1) (omega (arith, is-delay)))
+    first-in-time = rw is-delay (pacing.delay-in-time (leastRate (j .tree)) (j .M) (T j) (omega (arith, is-delay)))
 
     least : LeastMemories Q w (theory.memory Q w)
     least = memory-least Q fair w (in-time-fast (j .tree) (j .M) (T j) (within .tree) (job-film j) w first-in-time)

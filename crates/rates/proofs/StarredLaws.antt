@@ -34,10 +34,10 @@ use Rattle.planner.specs.declared.Answer.the-variants as answer
 use Rattle.planner.proofs.KeepLaws.{problemOf, no-plan, plan-best}
 use Rattle.planner.proofs.AnswerLaws.{early-none}
 use Rattle.writing.specs.PutBack.{memoriesIn}
-use Rattle.pacing.specs.Pace.{inTime, ahead, mostAhead}
+use Rattle.pacing.specs.Pace.{inTime, noDelay, ahead, mostAhead}
 use Rattle.pacing.proofs.DelayLaws.{in-time-each, each-in-time}
 use Rattle.rates.specs.Rates.{total, floorRate, leastRate, startDelay, memory}
-use Rattle.rates.specs.Answer.{noDelay, Sizes}
+use Rattle.rates.specs.Answer.{Sizes}
 use Rattle.rates.specs.Work.{memoryBy}
 use Rattle.rates.specs.Starred.{spell, Line, table, MemorySays, RateSays, Says, Holds}
 use Rattle.rates.specs.declared.Sizing.the-variants as sizing

@@ -2,7 +2,7 @@
 use mathlib.Core.Bool.{true, cond}
 use mathlib.Core.List.{List}
 use mathlib.Core.Path.{_≡_, refl, ap, sym, _∙_}
-use Prim.Native.Nat.{ℕ, suc, _+_, _-_, _<_, min}
+use Prim.Native.Nat.{ℕ, suc, _+_, _-_, _<_}
 use native.Mathlib.Omega.{arith}
 use lib.ListN.{length, getD}
 use Rattle.base.specs.Table.{tab}
@@ -12,8 +12,8 @@ use Rattle.job.specs.Limits.{mostNodes}
 use Rattle.job.specs.Tree.{Tree, TreeWithin, link, child}
 use Rattle.job.proofs.TreeLaws.{link-is, link-in, child-in}
 use Rattle.smoothing.proofs.NeedLaws.{need-parent}
-use Rattle.job.specs.Sums.{Film, sumsIn, lastIn, HoldsSums}
-use Rattle.job.proofs.SumsLaws.{film-of, sum-fits}
+use Rattle.job.specs.Sums.{Film, sumsIn, HoldsSums}
+use Rattle.job.proofs.SumsLaws.{film-to, sum-fits}
 use Rattle.writing.specs.PutBack.{memoriesIn}
 use Rattle.rates.specs.Rates.{total, floorRate, leastRate, need, memory}
 use Rattle.pacing.specs.Pace.{needOf, needsAt}
@@ -37,10 +37,7 @@ module _ (t : Tree) (tree : TreeWithin t) (sums : List ℕ) (holds : HoldsSums s
   T = sumsIn sums
 
   film : Film (sumsIn sums) (sumsIn sums M)
-  unfolding sumsIn lastIn
-  film =
-      let e : min M (length sums - 1) ≡ length sums - 1 = omega arith in
-      rw e (film-of sums holds)
+  film = film-to sums holds M long
 
   -- ---- needs
 

@@ -14,6 +14,7 @@ use Rattle.job.specs.Refusal.{badLent, refusal}
 use Rattle.planner.specs.Answer as planner
 use Rattle.planner.specs.Answer.{Answers}
 use Rattle.planner.specs.declared.Answer.{Answer}
+use Rattle.pacing.specs.Pace.{noDelay}
 use Rattle.writing.specs.PutBack.{putBack, memoriesIn}
 use Rattle.rates.specs.Rates.{Serves, total, totalFrom, startDelay, memory}
 use Rattle.rates.specs.declared.Sizing.{Sizing}
@@ -31,10 +32,6 @@ delayOf (Sized w all) = w
 abbrev pub totalOf : Sizing → ℕ
 totalOf (Refused e) = 0
 totalOf (Sized w all) = all
-
--- the number where no delay up to the longest serves
-abbrev pub noDelay : ℕ
-noDelay = 13
 
 -- the first of refusals 1 to 11 that applies, with this many memories lent; 0 where none does
 unfoldable pub earlyRefusal : List ℕ → ℕ → ℕ

@@ -11,9 +11,9 @@ use Rattle.job.specs.Tree.{Tree, link, child, leaf}
 use Rattle.job.specs.Read.{treeIn}
 use Rattle.job.specs.Sums.{sumsIn}
 use Rattle.job.specs.declared.Job.{Job}
+use Rattle.pacing.specs.Pace.{noDelay}
 use Rattle.writing.specs.PutBack.{memoriesIn}
 use Rattle.rates.specs.Rates.{total, floorRate, leastRate, startDelay, memory}
-use Rattle.rates.specs.Answer.{noDelay}
 use Rattle.rates.specs.declared.Sizing.{Sizing}
 use Rattle.rates.specs.declared.Sizing.the-variants.{Refused, Sized}
 

@@ -22,11 +22,6 @@ pub enum Sizing {
     Sized(u64, u64),
 }
 
-impl Sizing {
-    // The refusal where no delay up to the longest serves.
-    pub const NO_DELAY: u64 = 13;
-}
-
 // The least of a start and the numbers at the members of a set.
 fn least_of(set: u64, start: u64, numbers: &[u64; Job::MOST_NODES]) -> u64
     ensures { λ r. ⌜ r ≡ fold (λ g i. min g (getD (now (numbers .entry)) i 0)) start (has set) wordBits ⌝ }
@@ -113,7 +108,7 @@ fn with_sums(job: Job, sums: &[u64], places: &mut [u64], memories: &mut [u64]) -
     let least = least_rate(job);
     let w = pacing::start_delay(sums, least);
     if w > Node::LONGEST_DELAY as u64 {
-        return Sizing::Refused(Sizing::NO_DELAY);
+        return Sizing::Refused(pacing::NO_DELAY);
     }
     let floors = floor_rates(job, least);
     let needs = pacing::needs(sums, &floors, places);

@@ -6,7 +6,7 @@ use Prim.Native.Nat.{_-_, _≤_}
 use lib.ListN.{length}
 use Rattle.job.specs.Sums.{sumsIn}
 use Rattle.pacing.specs.Work.{DelayBefore}
-use Rattle.pacing.proofs.DelayLaws.{delay-before-none, delay-before-all}
+use Rattle.pacing.proofs.DelayLaws.{delay-before-none, delay-before-never, delay-before-all}
 
 abbrev Inv-loop : tie.InvT-loop
 Inv-loop sums r w₀ m₀ w m = (m ≤ length sums) × DelayBefore (sumsIn sums) r m w
@@ -23,14 +23,20 @@ stretch-end-requires c κs = search needs
 delay-for-slots-requires : tie.Need-delay-for-slots-requires Inv-loop μ-loop
 delay-for-slots-requires c κs = search needs
 
+returns : tie.Need-returns Inv-loop μ-loop
+returns c =
+    let some = c .before .before .before .before .before .before .pre .0 .holds .some-sum in
+    delay-before-never _ _ _ _ _ (omega (arith, c .before .before .stretch-end .ensures, some)) (c .if1 .taken)
+    (c .before .delay-for-slots .ensures)
+
 loop-less : tie.Need-loop-less Inv-loop μ-loop
-loop-less c = omega (arith, c .before .before .loop-test .taken, c .before .stretch-end .ensures)
+loop-less c = omega (arith, c .before .before .before .loop-test .taken, c .before .before .stretch-end .ensures)
 
 loop-again : tie.Need-loop-again Inv-loop μ-loop
 loop-again c = search needs
 
-returns : tie.Need-returns Inv-loop μ-loop
-returns c = delay-before-all _ _ _ (c .before .loop .m) _
+returns-2 : tie.Need-returns-2 Inv-loop μ-loop
+returns-2 c = delay-before-all _ _ _ (c .before .loop .m) _
     (omega (arith, c .before .before .before .pre .0 .holds .some-sum, c .before .loop .inv .0, c .loop-test .left))
     (c .before .loop .inv .1)
 
@@ -43,6 +49,7 @@ start-delay-spec =
     loop-holds
     stretch-end-requires
     delay-for-slots-requires
+    returns
     loop-less
     loop-again
-    returns)
+    returns-2)

@@ -9,15 +9,14 @@ use lib.ListN.{length}
 use Rattle.job.specs.Bytes.{jobOf}
 use Rattle.job.specs.Refusal.{refusal}
 use Rattle.job.specs.Tree.{Tree}
-use Rattle.job.specs.declared.Reading.{Reading}
-use Rattle.job.proofs.RefusalLaws.{read-accepts, refusedOr-number}
+use Rattle.job.proofs.RefusalLaws.{read-accepts, read-number}
 use Rattle.job.specs.Read.{Accepted}
 use Rattle.rates.specs.Answer.{Sizes}
 use Rattle.rates.proofs.AnswerLaws.{early-read, early-lent, sized}
 
 -- the reader's number is that of the definition
 number-is : (c : tie.After-read) → c .read .result .refusal ≡ refusal (c .before .before .before .args .bytes .now)
-number-is c = ap (λ (r : Reading). r .refusal) (c .read .ensures) ∙ refusedOr-number _ _
+number-is c = read-number _ _ (c .read .ensures)
 
 -- past the first test the job is accepted
 accepted : (c : tie.Else1) → Accepted (c .before .before .before .before .before .args .bytes .now) (c .before .before .read .result .job)

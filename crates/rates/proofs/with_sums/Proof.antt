@@ -7,6 +7,7 @@ use Prim.Native.Nat.{_-_}
 use lib.ListN.{length}
 use Rattle.job.specs.Read.{treeIn}
 use Rattle.job.specs.Sums.{sumsIn}
+use Rattle.pacing.proofs.DelayLaws.{film-sums}
 use Rattle.rates.specs.Rates.{startDelay}
 use Rattle.rates.specs.Work.{Worked}
 use Rattle.rates.proofs.FloorLaws.{least-rate-fits, floors-fit}
@@ -28,7 +29,7 @@ start-delay-requires : tie.Need-start-delay-requires
 start-delay-requires c κs =
     let st = c .before .before .before .before in
     let with = st .pre .0 .0 in (
-      record { holds = with .film; frames-to = omega (arith, with .long, with .frames-to) },
+      film-sums _ _ with,
       omega (arith, c .least-rate .ensures, least-rate-fits (treeIn (st .args .job)) (with .tree)),
     )
 
@@ -43,7 +44,7 @@ needs-requires : tie.Need-needs-requires
 needs-requires c κs =
     let st = c .before .before .before .before .before .before .before .before .before in
     let with = st .pre .0 .0 in (
-      record { film = record { holds = with .film; frames-to = omega (arith, with .long, with .frames-to) }; room = st .pre .0 .1 },
+      record { film = film-sums _ _ with; room = st .pre .0 .1 },
       rw (c .before .before .floor-rates .ensures) (floors-fit (treeIn (st .args .job)) (with .tree)),
     )
 

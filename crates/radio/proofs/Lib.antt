@@ -1,0 +1,3 @@
+pub mod ServeLaws
+pub mod CarryLaws
+pub mod AnswerLaws

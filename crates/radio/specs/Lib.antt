@@ -1,0 +1,3 @@
+pub mod Radio
+pub mod Answer
+pub mod Work

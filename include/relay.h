@@ -31,6 +31,13 @@ extern "C" {
  */
 #define RELAY_TREE_LENGTH 65
 
+/*
+ * How many rates relay_constant_rates takes at once, and how many numbers it gives
+ * for each.
+ */
+#define RELAY_MOST_RATES 8
+#define RELAY_LINE_LENGTH 3
+
 /* The bytes of a job with n nodes and m frames, and the numbers of its plan. */
 #define RELAY_JOB_LENGTH(n, m) \
     (10 + 19 * ((size_t)(n) - 1) + 4 * (size_t)(m))
@@ -45,9 +52,9 @@ extern "C" {
 
 /*
  * The numbers that the functions below give. 0 is an answer, or a step that was
- * taken; 1 to 14 are refusals, and where several apply the lowest is given, save by
- * relay_put_back, which gives one of the job as it is, 1 to 10, before 8, 9 and 11 of
- * what is to be put into it; 100 is no refusal: there is no further step.
+ * taken; 1 to 14 and 16 are refusals; 100 is no refusal: there is no further step.
+ * Where several refusals apply the first is given: 1 to 10 of the job as it is, the
+ * lowest first, and then those that the function lists, in the order of its list.
  */
 #define RELAY_ANSWERED 0
 #define RELAY_SHORT 1          /* fewer than 10 bytes */
@@ -64,8 +71,10 @@ extern "C" {
 #define RELAY_BAD_LENT 11      /* something lent has the wrong length */
 #define RELAY_NO_PLAN 12       /* no plan serves every leaf in time within the
                                   memories */
-#define RELAY_NO_DELAY 13      /* no delay up to 4,096 serves within the rates */
+#define RELAY_NO_DELAY 13      /* no delay up to 4,096 serves within the rates,
+                                  or at the rate of a line */
 #define RELAY_BROKEN_RULE 14   /* a plan's column breaks a rule */
+#define RELAY_BAD_RATES 16     /* no rate, or more than 8 */
 #define RELAY_DONE 100         /* the slot number is H or later */
 
 /*
@@ -82,6 +91,8 @@ struct relay_limits {
     uint64_t greatest_rate;
     uint64_t greatest_frame;
     size_t tree_length;
+    size_t most_rates;
+    size_t line_length;
 };
 
 /* Gives the library's sizes. It refuses nothing. */
@@ -185,14 +196,43 @@ struct relay_rate_answer relay_rate_question(
     uint64_t *memories, size_t memories_length);
 
 /*
+ * Asks, for a link that carries the job's film to one screen and sends a fixed
+ * number of bytes in every slot until the film is through, how long the screen waits
+ * and how much memory it needs, at each of up to RELAY_MOST_RATES rates, any numbers.
+ * At rate R the link has carried the smaller of R * k and T(M) by the end of slot k.
+ * The job's tree is checked and not used.
+ *
+ * Where the number is 0, `lines` holds for each of `rates` in turn three numbers,
+ * RELAY_LINE_LENGTH: 0, the delay and the memory; or RELAY_NO_DELAY, 0 and 0, where
+ * no delay up to 4,096 serves with any memory. The delay is the least that serves
+ * with any memory, and the memory the least that serves with any delay: together
+ * they serve.
+ *
+ * The number is else the first refusal that applies, of 1 to 10 above and these in
+ * turn, and `lines` is as it was:
+ *
+ *   16  `rates_length` is 0 or above RELAY_MOST_RATES
+ *   11  `lines_length` is not RELAY_LINE_LENGTH * `rates_length`
+ *
+ * `job` must point to at least `job_length` readable bytes, `rates` to at least
+ * `rates_length` readable and `lines` to at least `lines_length` writable numbers,
+ * and `lines` may overlap neither. Nothing is kept. The call needs about 0.6 MB of
+ * stack.
+ */
+uint64_t relay_constant_rates(
+    const uint8_t *job, size_t job_length,
+    const uint64_t *rates, size_t rates_length,
+    uint64_t *lines, size_t lines_length);
+
+/*
  * Puts an answer back: writes `delay` into the job as the delay of every leaf and
  * `memories` as those of nodes 1 to n-1 in turn, and leaves every other byte as it
  * was. The number is 0, and the bytes are a job again. What the rate question gave
  * for the job, put back, is answered by the memory question with 0 and a plan in
  * which no link's peak passes its rate.
  *
- * The number is else the first refusal that applies, of 1 to 10 above, of the bytes
- * as they are, and then these in turn, and the bytes are as they were:
+ * The number is else the first refusal that applies, of 1 to 10 above and these in
+ * turn, and the bytes are as they were:
  *
  *    8  `delay` is above 4,096
  *    9  one of `memories` is above 1,099,511,627,775, however many they are

@@ -13,6 +13,7 @@ use Rattle.planner.specs.declared.Answer.{Answer}
 use Rattle.planner.specs.declared.Place.{Place}
 use Rattle.rates.specs.Answer as rates
 use Rattle.rates.specs.declared.Sizing.{Sizing}
+use Rattle.radio.specs.Answer.{mostRates, lineLength}
 use Rattle.running.specs.Running as running
 use Rattle.running.specs.Running.{Stepped}
 use Rattle.running.specs.declared.Running.{Running}
@@ -27,7 +28,7 @@ use Rattle.relay_c.specs.declared.StepAnswer.{StepAnswer}
 abbrev pub stateLength : ℕ
 stateLength = mostNodes + 1
 
--- every bound of document 01, and the length of a running tree
+-- every bound, and the lengths of a running tree and of a line
 abbrev pub limitNumbers : Limits → LibraryLimits
 limitNumbers x =
     record {
@@ -40,6 +41,8 @@ limitNumbers x =
       «greatest_rate» = x .«greatest_rate»;
       «greatest_frame» = x .«greatest_frame»;
       «tree_length» = stateLength;
+      «most_rates» = mostRates;
+      «line_length» = lineLength;
     }
 
 abbrev pub memoryNumbers : Answer → MemoryAnswer

@@ -9,6 +9,7 @@ ghost use Rattle.planner.specs.Answer.{Answers, rowPlace};
 ghost use Rattle.planner.specs.declared.Answer as planner;
 ghost use Rattle.rates.specs.Answer.{Sizes};
 ghost use Rattle.rates.specs.declared.Sizing as rates;
+ghost use Rattle.radio.specs.Answer as radio;
 ghost use Rattle.writing.specs.PutBack.{Puts};
 ghost use Rattle.relay_c.specs.Numbers.{limitNumbers, memoryNumbers, rowNumbers, rateNumbers, stepNumbers};
 ghost use Rattle.relay_c.specs.Numbers.{stateLength, treeFrom, numberAt, StepSays};
@@ -22,7 +23,7 @@ use running::Running;
 // How many numbers a running tree is in C: the slot number and a place for each node.
 const STATE: usize = Job::MOST_NODES + 1;
 
-// Every bound, and the length of a running tree, so that a header's constants can be held against them.
+// Every bound, the length of a running tree and of a line, so that a header's constants can be held against them.
 #[repr(C)]
 pub struct LibraryLimits {
     pub fewest_nodes: usize,
@@ -34,6 +35,8 @@ pub struct LibraryLimits {
     pub greatest_rate: u64,
     pub greatest_frame: u64,
     pub tree_length: usize,
+    pub most_rates: usize,
+    pub line_length: usize,
 }
 
 #[no_mangle]
@@ -51,6 +54,8 @@ pub extern "C" fn relay_library_limits() -> LibraryLimits
         greatest_rate: all.greatest_rate,
         greatest_frame: all.greatest_frame,
         tree_length: STATE,
+        most_rates: radio::MOST_RATES,
+        line_length: radio::LINE_LENGTH,
     }
 }
 
@@ -140,6 +145,14 @@ pub extern "C" fn relay_rate_question(job: &[u8], memories: &mut [u64]) -> RateA
             total,
         },
     }
+}
+
+// The lines of constant rates, with the contract of `radio::constant_rates`.
+#[no_mangle]
+pub extern "C" fn relay_constant_rates(job: &[u8], rates: &[u64], lines: &mut [u64]) -> u64
+    ensures { λ r. ⌜ radio.Answers (now (job .entry)) (now (rates .entry)) (now (lines .entry)) r (now (lines .exit)) ⌝ }
+{
+    radio::constant_rates(job, rates, lines)
 }
 
 // An answer of the rate question put back into a job, with the contract of `writing::put_back`.

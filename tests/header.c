@@ -111,6 +111,8 @@ static void sizes(void)
     expect("greatest rate", RELAY_GREATEST_RATE, limits.greatest_rate);
     expect("greatest frame", RELAY_GREATEST_FRAME, limits.greatest_frame);
     expect("tree length", RELAY_TREE_LENGTH, limits.tree_length);
+    expect("most rates", RELAY_MOST_RATES, limits.most_rates);
+    expect("line length", RELAY_LINE_LENGTH, limits.line_length);
 }
 
 /* The same by what the library takes and what it refuses. */
@@ -265,6 +267,107 @@ static void rate_question(void)
     expect("rates of Tree Q, delay", 2, answer.delay);
     expect("rates of Tree Q, total", 12, answer.total);
     expect_all("rates of Tree Q, memories", due, memories, 3);
+}
+
+enum { RATES = RELAY_MOST_RATES, LINES = RELAY_LINE_LENGTH * RELAY_MOST_RATES };
+
+/* Any rates, one more than are taken, and a list as long as for all of them. */
+static const uint64_t any_rates[RATES + 1] = {
+    0, 1, 4, 5, 7, 10, 15, UINT64_MAX, 5
+};
+static uint64_t lines[LINES + RELAY_LINE_LENGTH];
+
+/* Fills the list, so that what is written there is seen. */
+static void fill_lines(void)
+{
+    size_t i;
+
+    for (i = 0; i < sizeof lines / sizeof lines[0]; i++) {
+        lines[i] = 91 + i;
+    }
+}
+
+/* The list from a place on is as it was filled. */
+static void expect_filled(const char *name, size_t first)
+{
+    size_t i;
+
+    for (i = first; i < sizeof lines / sizeof lines[0]; i++) {
+        expect(name, 91 + i, lines[i]);
+    }
+}
+
+/* Tree Q has played 4, 14, 15 by the end of its first three slots. At rate 5 the link
+   has carried 5, 10, 15, so that the 14 come one slot late. With delay 1 it has played
+   0, 4, 14 by then, and 5, 6, 1 wait: memory 6. At rate 4, with delay 2, the link has
+   carried 4, 8, 12, 15 and 0, 0, 4, 14 are played: 8. At rate 1 the 14 come 12 slots
+   late, and 12 wait before the 4 are played. At rates 7, 10 and from 15 on nothing is
+   late, and at slot 1 there wait 3, 6 and 11. */
+static void constant_rates(void)
+{
+    static const uint64_t due[LINES] = {
+        RELAY_NO_DELAY, 0, 0,
+        0, 12, 12,
+        0, 2, 8,
+        0, 1, 6,
+        0, 0, 3,
+        0, 0, 6,
+        0, 0, 11,
+        0, 0, 11
+    };
+    const size_t job = sizeof tree_q;
+
+    fill_lines();
+    expect("constant rates", RELAY_ANSWERED,
+           relay_constant_rates(tree_q, job, any_rates, RATES, lines, LINES));
+    expect_all("constant rates, lines", due, lines, LINES);
+    expect_filled("constant rates, past the lines", LINES);
+
+    fill_lines();
+    expect("one rate", RELAY_ANSWERED,
+           relay_constant_rates(tree_q, job, any_rates + 3, 1, lines,
+                                RELAY_LINE_LENGTH));
+    expect_all("one rate, line", due + 3 * RELAY_LINE_LENGTH, lines,
+               RELAY_LINE_LENGTH);
+    expect_filled("one rate, past the line", RELAY_LINE_LENGTH);
+
+    fill_lines();
+    expect("no delay at all", RELAY_ANSWERED,
+           relay_constant_rates(tree_q, job, any_rates, 1, lines,
+                                RELAY_LINE_LENGTH));
+    expect_all("no delay at all, line", due, lines, RELAY_LINE_LENGTH);
+    expect_filled("no delay at all, past the line", RELAY_LINE_LENGTH);
+}
+
+/* Constant rates that are refused: the number, and the list is as it was. */
+static void refused_rates(const char *name, size_t job_length, size_t rates_length,
+                          size_t lines_length, uint64_t number)
+{
+    fill_lines();
+    expect(name, number,
+           relay_constant_rates(tree_q, job_length, any_rates, rates_length, lines,
+                                lines_length));
+    expect_filled(name, 0);
+}
+
+static void refused_constant_rates(void)
+{
+    const size_t job = sizeof tree_q;
+
+    refused_rates("too many rates", job, RATES + 1, LINES + RELAY_LINE_LENGTH,
+                  RELAY_BAD_RATES);
+    refused_rates("too many rates, short list", job, RATES + 1, LINES,
+                  RELAY_BAD_RATES);
+    refused_rates("no rate", job, 0, 0, RELAY_BAD_RATES);
+    refused_rates("no rate, long list", job, 0, RELAY_LINE_LENGTH, RELAY_BAD_RATES);
+    refused_rates("short list", job, RATES, LINES - 1, RELAY_BAD_LENT);
+    refused_rates("long list", job, RATES, LINES + 1, RELAY_BAD_LENT);
+    refused_rates("no list", job, 1, 0, RELAY_BAD_LENT);
+    refused_rates("list of two lines", job, 1, 2 * RELAY_LINE_LENGTH, RELAY_BAD_LENT);
+    refused_rates("short job, no rate", 9, 0, 0, RELAY_SHORT);
+    refused_rates("short job, short list", 9, RATES, LINES - 1, RELAY_SHORT);
+    refused_rates("job cut off, too many rates", job - 1, RATES + 1, 0,
+                  RELAY_BAD_LENGTH);
 }
 
 static void expect_bytes(const char *name, const uint8_t *expected,
@@ -441,6 +544,8 @@ int main(void)
     memory_question();
     rows();
     rate_question();
+    constant_rates();
+    refused_constant_rates();
     put_back();
     run_to_the_end();
     refused_steps();

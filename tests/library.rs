@@ -70,7 +70,7 @@ pub struct Row {
 #[repr(C)]
 struct Limits([u64; LIMITS]);
 
-pub const LIMITS: usize = 9;
+pub const LIMITS: usize = 11;
 
 extern "C" {
     fn relay_library_limits() -> Limits;
@@ -94,6 +94,15 @@ extern "C" {
         memories: *mut u64,
         memories_length: usize,
     ) -> RateAnswer;
+
+    fn relay_constant_rates(
+        job: *const u8,
+        job_length: usize,
+        rates: *const u64,
+        rates_length: usize,
+        lines: *mut u64,
+        lines_length: usize,
+    ) -> u64;
 
     fn relay_put_back(
         job: *mut u8,
@@ -174,6 +183,17 @@ pub fn rate_question(job: Part<u8>, memories: Part<u64>) -> RateAnswer {
     // SAFETY: each part lies within its buffer, and the buffers do not overlap,
     // as each is lent mutably for the whole call.
     unsafe { relay_rate_question(job, job_length, memories, memories_length) }
+}
+
+/// The library's number for constant rates, whose lines it writes. The job and the
+/// rates are lent mutably, so that a write can be seen.
+pub fn constant_rates(job: Part<u8>, rates: Part<u64>, lines: Part<u64>) -> u64 {
+    let (job, job_length) = lend(job);
+    let (rates, rates_length) = lend(rates);
+    let (lines, lines_length) = lend(lines);
+    // SAFETY: each part lies within its buffer, and the buffers do not overlap,
+    // as each is lent mutably for the whole call.
+    unsafe { relay_constant_rates(job, job_length, rates, rates_length, lines, lines_length) }
 }
 
 /// An answer put back into the job by the library. The memories are lent mutably

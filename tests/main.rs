@@ -11,6 +11,7 @@ mod asking;
 mod brute;
 mod edges;
 mod faults;
+mod films;
 mod garbage;
 mod job;
 mod lazy;
@@ -31,9 +32,12 @@ mod rowing;
 mod rules;
 mod running;
 mod section;
+mod sending;
 mod shapes;
 mod sizes_brute;
 mod sizing;
+mod steady;
+mod steady_brute;
 mod stepping;
 mod trees;
 mod writer;
@@ -50,13 +54,14 @@ const fn entry<S: Section>() -> Entry {
     (S::GATE, S::STREAM, section::run::<S>)
 }
 
-const SECTIONS: [Entry; 7] = [
+const SECTIONS: [Entry; 8] = [
     entry::<reading::Reading>(),
     entry::<planning::Planning>(),
     entry::<running::Steps>(),
     entry::<rating::Rating>(),
     entry::<putting::Putting>(),
     entry::<rowing::Rows>(),
+    entry::<sending::Sending>(),
     entry::<program::Program>(),
 ];
 

@@ -15,7 +15,8 @@ use crate::shapes::{any_valid, few_frames, large_valid, valid, Shape, SHAPES};
 use crate::{edges, garbage, reader};
 
 /// The document's limits in the header's order: the nodes, the frames, the longest
-/// delay, the greatest memory, rate and frame, and the numbers of a running tree.
+/// delay, the greatest memory, rate and frame, the numbers of a running tree, the most
+/// constant rates of a call and the numbers of the line of each.
 const DUE_LIMITS: [u64; LIMITS] = [
     2,
     64,
@@ -26,6 +27,8 @@ const DUE_LIMITS: [u64; LIMITS] = [
     1_099_511_627_775,
     16_777_215,
     65,
+    8,
+    3,
 ];
 
 pub struct Reading;

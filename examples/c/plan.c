@@ -1,13 +1,16 @@
 /*
  * Plans a job of any size, as a host would: the plan lies on the heap.
  *
- *     plan FILE          prints the lines of document 01's program
- *     plan --csv FILE    prints the plan's rows: slot,node1,node2,...
+ *     plan FILE                  prints the lines of document 01's program
+ *     plan --csv FILE            prints the plan's rows: slot,node1,node2,...
+ *     plan --rates R,R,... FILE  prints the delay and the memory of one screen at
+ *                                each of up to 8 constant rates, bytes a slot
  *
- * FILE is a job, or - for standard input. Both forms ask both questions. The
- * status is 0 where both were answered, 1 where one was refused, and 2 where
- * there is nothing to ask: no such file, no memory, a job refused by 1 to 10.
- * What went wrong is said on standard error.
+ * FILE is a job, or - for standard input. The first two forms ask both questions.
+ * The status is 0 where all was answered, 1 where a question was refused or some
+ * rate has no delay, and 2 where there is nothing to ask: no such file, no memory,
+ * a word that is no rate, a job refused by 1 to 10, a list of rates by 16. What went
+ * wrong is said on standard error; that a rate has no delay, in its line.
  */
 
 #include <errno.h>
@@ -53,10 +56,12 @@ static const char *meaning(uint64_t number)
         "a frame is above 16,777,215 bytes",
         "an output of the wrong length",
         "no plan serves every leaf in time within the memories",
-        "no delay up to 4,096 serves within the rates"
+        "no delay up to 4,096 serves within the rates",
+        [RELAY_BAD_RATES] = "no rate, or more than 8"
     };
+    int known = number < sizeof words / sizeof words[0] && words[number] != NULL;
 
-    return number < sizeof words / sizeof words[0] ? words[number] : "unknown";
+    return known ? words[number] : "unknown";
 }
 
 /* Says what is wrong with `name`, and gives the status for it. */
@@ -266,17 +271,114 @@ static enum status plan(const char *name, int csv, struct asked *asked)
     return status;
 }
 
+/* Reads a decimal number of `length` digits; says whether it is one, and fits. */
+static int read_number(const char *text, size_t length, uint64_t *number)
+{
+    uint64_t value = 0;
+    size_t i;
+
+    for (i = 0; i < length; i++) {
+        /* What is no digit comes out above 9. */
+        uint64_t digit = (uint64_t)text[i] - '0';
+
+        if (digit > 9 || value > (UINT64_MAX - digit) / 10) {
+            return 0;
+        }
+        value = value * 10 + digit;
+    }
+    *number = value;
+    return length > 0;
+}
+
+/*
+ * Reads rates with commas between them; an empty text has none. One more than may be
+ * asked is refused whatever follows, so no more are kept.
+ */
+static enum status read_rates(const char *text, uint64_t *rates, size_t *count)
+{
+    *count = 0;
+    if (*text == '\0') {
+        return ANSWERED;
+    }
+    do {
+        size_t length = strcspn(text, ",");
+        uint64_t rate;
+
+        if (!read_number(text, length, &rate)) {
+            fprintf(stderr,
+                    "plan: rate '%.*s' is not a whole number from 0 to %" PRIu64
+                    "\n", (int)length, text, UINT64_MAX);
+            return NOTHING;
+        }
+        if (*count <= RELAY_MOST_RATES) {
+            rates[*count] = rate;
+            *count += 1;
+        }
+        text += length;
+    } while (*text++ == ',');
+    return ANSWERED;
+}
+
+/* A heading and a line for each rate; whether all have a delay. */
+static enum status print_lines(const uint64_t *rates, size_t count,
+                               const uint64_t *lines)
+{
+    enum status status = ANSWERED;
+    size_t i;
+
+    printf("%20s  %6s  %12s  %13s\n", "rate, bytes a slot", "number",
+           "delay, slots", "memory, bytes");
+    for (i = 0; i < count; i++) {
+        const uint64_t *line = lines + RELAY_LINE_LENGTH * i;
+
+        printf("%20" PRIu64 "  %6" PRIu64, rates[i], line[0]);
+        if (line[0] == 0) {
+            printf("  %12" PRIu64 "  %13" PRIu64 "\n", line[1], line[2]);
+        } else {
+            printf("  no delay up to 4,096 serves\n");
+            status = REFUSED;
+        }
+    }
+    return status;
+}
+
+/* As plan(), for constant rates. */
+static enum status plan_rates(const char *text, const char *name,
+                              struct asked *asked)
+{
+    uint64_t rates[RELAY_MOST_RATES + 1];
+    uint64_t lines[RELAY_LINE_LENGTH * (RELAY_MOST_RATES + 1)];
+    size_t count;
+    uint64_t number;
+
+    if (read_rates(text, rates, &count) != ANSWERED ||
+        read_job(name, asked) != ANSWERED) {
+        return NOTHING;
+    }
+    number = relay_constant_rates(asked->job, asked->job_length, rates, count,
+                                  lines, RELAY_LINE_LENGTH * count);
+    if (number != 0) {
+        say_refused(name, number == RELAY_BAD_RATES ? "the list of rates is"
+                                                    : "the job is", number);
+        return NOTHING;
+    }
+    return print_lines(rates, count, lines);
+}
+
 int main(int argc, char **argv)
 {
     struct asked asked = { 0 };
-    int csv = argc == 3 && strcmp(argv[1], "--csv") == 0;
+    int csv = argc > 1 && strcmp(argv[1], "--csv") == 0;
+    int rates = argc > 1 && strcmp(argv[1], "--rates") == 0;
+    const char *name;
     enum status status;
 
-    if (!csv && (argc != 2 || strcmp(argv[1], "--csv") == 0)) {
-        fprintf(stderr, "usage: plan [--csv] FILE\n");
+    if (argc != (csv ? 3 : rates ? 4 : 2)) {
+        fprintf(stderr, "usage: plan [--csv | --rates RATE,RATE,...] FILE\n");
         return NOTHING;
     }
-    status = plan(argv[argc - 1], csv, &asked);
+    name = argv[argc - 1];
+    status = rates ? plan_rates(argv[2], name, &asked) : plan(name, csv, &asked);
     free(asked.job);
     free(asked.plan);
     free(asked.peaks);

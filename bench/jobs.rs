@@ -237,6 +237,8 @@ pub struct Rated {
     pub bytes: Vec<u8>,
     /// How many floor rates differ.
     pub floors: usize,
+    /// Bytes of a frame, on average.
+    pub mean: u64,
 }
 
 /// How many of the floor rates differ, where each is the least of a link's own rate and those
@@ -279,6 +281,7 @@ pub fn rated(shape: Shape, rates: Rates, film: Film, n: usize, frames: usize) ->
     Rated {
         bytes: encode(records, &sizes),
         floors: different_floors(&parent, &rate),
+        mean,
     }
 }
 

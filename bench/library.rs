@@ -43,6 +43,15 @@ extern "C" {
         memories_len: usize,
     ) -> RateAnswer;
 
+    fn relay_constant_rates(
+        job: *const u8,
+        job_len: usize,
+        rates: *const u64,
+        rates_len: usize,
+        lines: *mut u64,
+        lines_len: usize,
+    ) -> u64;
+
     fn relay_step(
         tree: *mut u64,
         tree_len: usize,
@@ -81,6 +90,21 @@ pub fn rate_question(job: &[u8], memories: &mut [u64]) -> RateAnswer {
             job.len(),
             memories.as_mut_ptr(),
             memories.len(),
+        )
+    }
+}
+
+/// The lines of constant rates, by the library.
+pub fn constant_rates(job: &[u8], rates: &[u64], lines: &mut [u64]) -> u64 {
+    // SAFETY: each pointer comes with the length of the slice it was taken from.
+    unsafe {
+        relay_constant_rates(
+            job.as_ptr(),
+            job.len(),
+            rates.as_ptr(),
+            rates.len(),
+            lines.as_mut_ptr(),
+            lines.len(),
         )
     }
 }

@@ -1,7 +1,9 @@
-//! Times the memory question, the rate question and a step of the proved library against
-//! peers written for speed, on the same jobs, in turn, on one core. Only a disagreement
+//! Times the memory question, the rate question, constant rates and a step of the proved
+//! library against peers in Rust, on the same jobs, in turn, on one core. Only a disagreement
 //! between the two sides fails the run.
 
+mod constant;
+mod constant_table;
 mod jobs;
 mod library;
 mod memory_table;
@@ -36,9 +38,10 @@ fn main() -> ExitCode {
     let agreed = [
         memory_table::print(),
         rate_table::print(),
+        constant_table::print(),
         step_table::print(),
     ];
-    if agreed == [true; 3] {
+    if agreed == [true; 4] {
         ExitCode::SUCCESS
     } else {
         ExitCode::FAILURE

@@ -1,12 +1,12 @@
 //! One side alone, for a profiler.
 
 use crate::jobs::{Delays, Film, Shape};
-use crate::{memory_table, rate_table, step_table};
+use crate::{constant_table, memory_table, rate_table, step_table};
 use std::time::{Duration, Instant};
 
 pub const USAGE: &str = "only library|peer QUESTION SHAPE NODES FRAMES
 QUESTION: spread or equal (delays of the memory question), scenes or alternating (films of the
-rate question), or step; SHAPE: as the tables have it";
+rate question), constant (8 constant rates) or step; SHAPE: as the tables have it";
 
 const LENGTH: Duration = Duration::from_secs(5);
 
@@ -25,6 +25,7 @@ fn question(arguments: &[String]) -> Option<Box<dyn FnMut()>> {
         "equal" => Some(memory_table::alone(library, Delays::Equal, shape, size)),
         "scenes" => Some(rate_table::alone(library, Film::Scenes, shape, size)),
         "alternating" => Some(rate_table::alone(library, Film::Alternating, shape, size)),
+        "constant" => Some(constant_table::alone(library, shape, size)),
         "step" => Some(step_table::alone(library, shape, size)),
         _ => None,
     }

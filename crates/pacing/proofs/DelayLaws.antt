@@ -1,4 +1,4 @@
--- The least delay in time, found frame by frame.
+-- The sums that a pass is handed, and the least delay in time, found frame by frame.
 use mathlib.Core.Bool.{Bool, true, false, not}
 use mathlib.Core.List.{List}
 use mathlib.Core.Path.{_≡_, refl}
@@ -132,21 +132,11 @@ module _ (T : ℕ → ℕ) (r : ℕ) where
           let on : m + w ≤ i + w = omega arith in
           omega (arith, grows i (to - 1) (omega arith), h, mul-le-mul-left r on)
 
-  pub delay-before-all : (M m w : ℕ) → m ≡ M + 1 → DelayBefore T r m w → w ≡ delayAt r M T
-  delay-before-all M m w e d =
+  -- after the last slot it is the least for all; and where none up to the longest is in time for some slots, none is for all
+  pub delay-before-is : (M m w : ℕ) → m ≤ M + 1 → (w ≤ longestDelay → m ≡ M + 1) → DelayBefore T r m w → w ≡ delayAt r M T
+  delay-before-is M m w h all d =
       first-is (inTime r M T) (longestDelay + 1) w (d .to)
-      (λ h. each-in-time r M T w (λ i l. d .late (omega arith) i (omega arith)))
-      (λ y h. otherwise (inTime r M T y) (λ u. omega (
-        arith,
-        d .to,
-        d .least y (omega (arith, d .to))
-            (λ i l. in-time-each r M T y u i (omega arith)),
-      )))
-
-  -- where none up to the longest is in time for some slots, none is for all
-  pub delay-before-never : (M m w : ℕ) → m ≤ M + 1 → longestDelay < w → DelayBefore T r m w → w ≡ delayAt r M T
-  delay-before-never M m w h past d =
-      first-is (inTime r M T) (longestDelay + 1) w (d .to) (λ l. absurd (omega arith))
+      (λ l. each-in-time r M T w (λ i k. d .late (omega arith) i (omega (arith, all (omega arith)))))
       (λ y l. otherwise (inTime r M T y) (λ u. omega (
         arith,
         d .to,

@@ -6,7 +6,7 @@ use Prim.Native.Nat.{_-_, _≤_}
 use lib.ListN.{length}
 use Rattle.job.specs.Sums.{sumsIn}
 use Rattle.pacing.specs.Work.{DelayBefore}
-use Rattle.pacing.proofs.DelayLaws.{delay-before-none, delay-before-never, delay-before-all}
+use Rattle.pacing.proofs.DelayLaws.{delay-before-none, delay-before-is}
 
 abbrev Inv-loop : tie.InvT-loop
 Inv-loop sums r w₀ m₀ w m = (m ≤ length sums) × DelayBefore (sumsIn sums) r m w
@@ -26,7 +26,7 @@ delay-for-slots-requires c κs = search needs
 returns : tie.Need-returns Inv-loop μ-loop
 returns c =
     let some = c .before .before .before .before .before .before .pre .0 .holds .some-sum in
-    delay-before-never _ _ _ _ _ (omega (arith, c .before .before .stretch-end .ensures, some)) (c .if1 .taken)
+    delay-before-is _ _ _ _ _ (omega (arith, c .before .before .stretch-end .ensures, some)) (λ l. absurd (omega (arith, c .if1 .taken)))
     (c .before .delay-for-slots .ensures)
 
 loop-less : tie.Need-loop-less Inv-loop μ-loop
@@ -36,9 +36,11 @@ loop-again : tie.Need-loop-again Inv-loop μ-loop
 loop-again c = search needs
 
 returns-2 : tie.Need-returns-2 Inv-loop μ-loop
-returns-2 c = delay-before-all _ _ _ (c .before .loop .m) _
-    (omega (arith, c .before .before .before .pre .0 .holds .some-sum, c .before .loop .inv .0, c .loop-test .left))
-    (c .before .loop .inv .1)
+returns-2 c =
+    let l = c .before .loop in
+    let some = c .before .before .before .pre .0 .holds .some-sum in
+    delay-before-is _ _ _ (l .m) _ (omega (arith, l .inv .0, some)) (λ h. omega (arith, l .inv .0, c .loop-test .left, some))
+    (l .inv .1)
 
 pub start-delay-spec : {M : Type 1} → statement M
 start-delay-spec =

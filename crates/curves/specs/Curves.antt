@@ -7,7 +7,6 @@ use Prim.Native.Nat.{ℕ, zero, suc, _+_, _-_, _*_, _≤_, _<_, max, min}
 use lib.Dec.{eqb}
 use lib.ListN.{length, getD}
 use Rattle.base.specs.Range.{greatestOver, leastOver}
-use Rattle.job.specs.Limits.{mostFrames, greatestFrame}
 use Rattle.job.specs.Tree.{Tree, child, leaf, below}
 use Rattle.smoothing.specs.Plan.{Problem}
 

@@ -3,12 +3,13 @@
 use mathlib.Core.Bool.{true, false}
 use mathlib.Core.List.{List, [], _∷_, _++_}
 use mathlib.Core.Path.{_≡_, refl}
-use Prim.Native.Nat.{ℕ, _-_, _/_, _%_, _^_}
+use Prim.Native.Nat.{ℕ, _+_, _/_, _%_, _^_}
 use lib.ListN.{take}
 use Rattle.base.specs.Number.{number}
 use Rattle.base.specs.Range.{sum, some, fold}
 use Rattle.job.specs.Tree.{link, child, hasChild, leaf, meets, below, T, greatestDelay, H, planLength}
 use Rattle.job.specs.Bytes.{mark, version, nodeCount, frameCount, parentAt, delayAt, memoryAt, rateAt, frameAt, wantedLength, perNode, jobOf, treeOf}
+use Rattle.job.specs.Limits.{greatestMemory, greatestRate, greatestFrame}
 use Rattle.job.specs.Refusal.{refusal}
 
 -- ---- jobs as bytes
@@ -87,13 +88,13 @@ refusals :
     ∷ refusal (take 78 listed)
     ∷ refusal (listed ++ (0 ∷ []))
     ∷ refusal (treeQ (row 1 0 4 5) (row 1 1 6 4) film)
-    ∷ refusal (treeQ (row 0 0 (2 ^ 40) 5) (row 3 1 6 4) film)
+    ∷ refusal (treeQ (row 0 0 (greatestMemory + 1) 5) (row 3 1 6 4) film)
     ∷ refusal (treeQ (row 0 1 4 5) (row 1 1 6 4) film)
-    ∷ refusal (treeQ (row 0 0 (2 ^ 40) 5) (row 1 4097 6 4) film)
-    ∷ refusal (treeQ (row 0 0 (2 ^ 40) 5) (row 1 4096 6 4) film)
-    ∷ refusal (treeQ (row 0 0 4 5) (row 1 1 6 (2 ^ 40)) (four (2 ^ 24) ++ (four 10 ++ four 1)))
-    ∷ refusal (treeQ (row 0 0 4 5) (row 1 1 6 4) (four 4 ++ (four 10 ++ four (2 ^ 24))))
-    ∷ refusal (treeQ (row 0 0 (2 ^ 40 - 1) (2 ^ 40 - 1)) (row 1 4096 0 0) (four 0 ++ (four 0 ++ four (2 ^ 24 - 1))))
+    ∷ refusal (treeQ (row 0 0 (greatestMemory + 1) 5) (row 1 4097 6 4) film)
+    ∷ refusal (treeQ (row 0 0 (greatestMemory + 1) 5) (row 1 4096 6 4) film)
+    ∷ refusal (treeQ (row 0 0 4 5) (row 1 1 6 (greatestRate + 1)) (four (greatestFrame + 1) ++ (four 10 ++ four 1)))
+    ∷ refusal (treeQ (row 0 0 4 5) (row 1 1 6 4) (four 4 ++ (four 10 ++ four (greatestFrame + 1))))
+    ∷ refusal (treeQ (row 0 0 greatestMemory greatestRate) (row 1 4096 0 0) (four 0 ++ (four 0 ++ four greatestFrame)))
     ∷ [])
     ≡ (0 ∷ 1 ∷ 2 ∷ 3 ∷ 4 ∷ 4 ∷ 5 ∷ 5 ∷ 6 ∷ 6 ∷ 7 ∷ 7 ∷ 8 ∷ 8 ∷ 9 ∷ 9 ∷ 10 ∷ 0 ∷ [])
 unfolding two four eight header row film treeQ listed number mark version nodeCount frameCount parentAt delayAt memoryAt rateAt frameAt wantedLength perNode some link child hasChild leaf refusal

@@ -9,7 +9,7 @@ use Rattle.base.specs.Range.{sum, greatestOver}
 use Rattle.base.specs.Set.{has, wordBits}
 use Rattle.base.proofs.BoolLaws.{not-both, lt-or-le}
 use Rattle.base.proofs.RangeLaws.{sum-le, sum-bound, fold-cong, fold-skip, greatestOver-under, greatestOver-above}
-use Rattle.job.specs.Limits.{mostNodes, mostFrames, longestDelay, greatestFrame}
+use Rattle.job.specs.Limits.{mostNodes, mostFrames, longestDelay, greatestMemory, greatestFrame, greatestTotal}
 use Rattle.job.specs.Tree.{Tree, JobData, TreeWithin, JobWithin, link, leaf, T, greatestDelay, H, planLength}
 use Rattle.job.proofs.TreeLaws.{link-is, leaf-in, leaf-past, leaf-childless, root-has-child}
 
@@ -54,8 +54,12 @@ T-bound j w m =
     (mul-le-mul-right greatestFrame (omega arith))
 
 -- the same as one number, for machine words
-pub T-fits : (j : JobData) → JobWithin j → (m : ℕ) → T j m ≤ mostFrames * greatestFrame
+pub T-fits : (j : JobData) → JobWithin j → (m : ℕ) → T j m ≤ greatestTotal
 T-fits j w m = le-trans (T-bound j w m) (mul-le-mul-right greatestFrame (w .frames-to))
+
+-- a whole film is no more than a memory or a rate may be
+pub total-in-memory : greatestTotal ≤ greatestMemory
+total-in-memory = omega arith
 
 -- ---- H and the length of a plan
 

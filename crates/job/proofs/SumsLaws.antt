@@ -2,13 +2,13 @@
 use mathlib.Core.Path.{_≡_, refl, ap, sym, _∙_, fun-ext}
 use mathlib.Core.List.{List}
 use mathlib.Core.Logic.{⊎-elim}
-use Prim.Native.Nat.{ℕ, _+_, _-_, _*_, _≤_, _<_, min}
+use Prim.Native.Nat.{ℕ, _+_, _-_, _≤_, _<_, min}
 use native.Mathlib.Omega.{arith}
 use lib.ListN.{length, getD}
 use Rattle.base.specs.Table.{tab}
 use Rattle.base.proofs.BoolLaws.{lt-or-le}
 use Rattle.base.proofs.TableLaws.{length-tab, getD-tab}
-use Rattle.job.specs.Limits.{mostFrames, greatestFrame}
+use Rattle.job.specs.Limits.{greatestTotal}
 use Rattle.job.specs.Tree.{JobData, JobWithin, T}
 use Rattle.job.proofs.SlotLaws.{T-zero, T-past, T-le, T-top, T-fits}
 use Rattle.job.specs.Bytes.{frameCount, jobOf}
@@ -36,11 +36,11 @@ unfolding sumsIn
 sum-at l m h = let e : min m (length l - 1) ≡ m = omega arith in rw e
 
 -- T is at most what the limits allow
-pub sum-fits : (l : List ℕ) → HoldsSums l → (m : ℕ) → sumsIn l m ≤ mostFrames * greatestFrame
+pub sum-fits : (l : List ℕ) → HoldsSums l → (m : ℕ) → sumsIn l m ≤ greatestTotal
 sum-fits l h m = omega (arith, film-of l h .under m, h .fits)
 
 -- and so is every number of the slice
-pub place-fits : (l : List ℕ) → HoldsSums l → (m : ℕ) → m < length l → getD l m 0 ≤ mostFrames * greatestFrame
+pub place-fits : (l : List ℕ) → HoldsSums l → (m : ℕ) → m < length l → getD l m 0 ≤ greatestTotal
 unfolding lastIn
 place-fits l h m q = omega (arith, h .grows m (length l - 1) (omega arith) (omega arith), h .fits)
 

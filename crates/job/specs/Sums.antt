@@ -1,10 +1,10 @@
 -- The sums T(0) to T(M) of a film, as a function of a frame count and as a slice that holds them.
 use mathlib.Core.List.{List}
 use mathlib.Core.Path.{_≡_}
-use Prim.Native.Nat.{ℕ, _+_, _-_, _*_, _≤_, _<_, min}
+use Prim.Native.Nat.{ℕ, _+_, _-_, _≤_, _<_, min}
 use lib.ListN.{length, getD}
 use Rattle.base.specs.Table.{tab}
-use Rattle.job.specs.Limits.{mostFrames, greatestFrame}
+use Rattle.job.specs.Limits.{mostFrames, greatestTotal}
 use Rattle.job.specs.Tree.{T, TreeWithin}
 use Rattle.job.specs.Bytes.{frameCount, jobOf}
 use Rattle.job.specs.Read.{treeIn}
@@ -48,7 +48,7 @@ pub record HoldsSums (l : List ℕ) : Type 0 where
   pub some-sum : 0 < length l
   pub starts : getD l 0 0 ≡ 0
   pub grows : (m k : ℕ) → m ≤ k → k < length l → getD l m 0 ≤ getD l k 0
-  pub fits : lastIn l ≤ mostFrames * greatestFrame
+  pub fits : lastIn l ≤ greatestTotal
 
 -- a job's struct within the limits, and the sums of its film
 pub record WithSums (job : Job) (sums : List ℕ) : Type 0 where

@@ -16,7 +16,7 @@ use Rattle.job.specs.Limits.{longestDelay, greatestMemory}
 use Rattle.job.specs.Tree.{JobData, JobWithin, link, leaf, below, T, H, planLength}
 use Rattle.job.specs.Bytes.{perNode, jobOf}
 use Rattle.job.specs.Refusal.{refusal}
-use Rattle.job.proofs.SlotLaws.{T-top, T-fits}
+use Rattle.job.proofs.SlotLaws.{T-top, T-fits, total-in-memory}
 use Rattle.job.proofs.TreeLaws.{link-in, below-in}
 use Rattle.smoothing.specs.Tree.{Link}
 use Rattle.smoothing.specs.Tree as theory-tree
@@ -163,7 +163,7 @@ module _ (j : JobData) (within : JobWithin j) where
       pub memory-fits : (i : ℕ) → link (j .tree .n) i ≡ true → b i ≤ greatestMemory
       memory-fits i e =
           let h = link-in (j .tree .n) i e in
-          omega (arith, is-theory i h, memory-under Q w i, need-fits i, T-fits j within (j .M))
+          omega (arith, is-theory i h, memory-under Q w i, need-fits i, T-fits j within (j .M), total-in-memory)
 
 -- ---- put back
 

@@ -1,11 +1,12 @@
 -- The definitions computed on a small job: node 1 under the root, leaf 2 under node 1, one frame. Expected values are written from document 01.
 use mathlib.Core.List.{List, [], _∷_}
 use mathlib.Core.Path.{_≡_, refl}
-use Prim.Native.Nat.{ℕ, _-_, _^_}
+use Prim.Native.Nat.{ℕ, _+_}
 use Rattle.base.specs.Number.{number}
 use Rattle.base.specs.Range.{some, fold}
 use Rattle.job.specs.Tree.{link, child, hasChild, leaf}
 use Rattle.job.specs.Bytes.{mark, version, nodeCount, frameCount, parentAt, delayAt, memoryAt, rateAt, frameAt, wantedLength, perNode}
+use Rattle.job.specs.Limits.{greatestMemory}
 use Rattle.job.specs.Refusal.{refusal}
 use Rattle.writing.specs.PutBack.{written, recordPut, putBack, memoriesIn, putBackRefusal}
 
@@ -29,12 +30,12 @@ put = refl
 
 -- none; 8 before 9 and 11, 9 before 11 also past the last node, 11; and a refusal of the job before all
 refusals :
-    (putBackRefusal (small 0 3 4 6) 4096 (7 ∷ (2 ^ 40 - 1) ∷ [])
-    ∷ putBackRefusal (small 0 3 4 6) 4097 (2 ^ 40 ∷ [])
-    ∷ putBackRefusal (small 0 3 4 6) 4096 (7 ∷ 9 ∷ 2 ^ 40 ∷ [])
+    (putBackRefusal (small 0 3 4 6) 4096 (7 ∷ greatestMemory ∷ [])
+    ∷ putBackRefusal (small 0 3 4 6) 4097 ((greatestMemory + 1) ∷ [])
+    ∷ putBackRefusal (small 0 3 4 6) 4096 (7 ∷ 9 ∷ (greatestMemory + 1) ∷ [])
     ∷ putBackRefusal (small 0 3 4 6) 4096 (7 ∷ [])
-    ∷ putBackRefusal (small 17 3 4 6) 4096 (2 ^ 40 ∷ [])
-    ∷ putBackRefusal [] 4097 (2 ^ 40 ∷ [])
+    ∷ putBackRefusal (small 17 3 4 6) 4096 ((greatestMemory + 1) ∷ [])
+    ∷ putBackRefusal [] 4097 ((greatestMemory + 1) ∷ [])
     ∷ [])
     ≡ (0 ∷ 8 ∷ 9 ∷ 11 ∷ 8 ∷ 1 ∷ [])
 unfolding small putBackRefusal refusal number some link child hasChild leaf mark version nodeCount frameCount parentAt delayAt memoryAt rateAt frameAt wantedLength perNode

@@ -3,10 +3,11 @@ use borrow.Author.Needs.{needs}
 use Rattle.radio.proofs.fill_line.Statement.{statement}
 use Rattle.radio.proofs.fill_line.Tie as tie
 use mathlib.Core.Path.{_≡_, sym, ap, _∙_}
-use Prim.Native.Nat.{_-_, _≤_, min}
+use Prim.Native.Nat.{_-_, _≤_, _<_, min}
 use lib.ListN.{length}
 use Rattle.job.specs.Limits.{greatestRate}
 use Rattle.job.specs.Sums.{sumsIn}
+use Rattle.job.proofs.SlotLaws.{total-in-memory}
 use Rattle.job.proofs.SumsLaws.{place-fits}
 use Rattle.pacing.specs.Pace.{delayAt}
 use Rattle.radio.specs.Radio.{lineWith, lineOf}
@@ -18,7 +19,8 @@ rate-fits : (c : tie.After-min) → c .min .result ≤ greatestRate
 rate-fits c =
     let st = c .before .before .before .before in
     let M = length (st .args .sums .now) - 1 in
-    omega (arith, c .min .ensures, place-fits (st .args .sums .now) (st .pre .0 .holds) M (omega (arith, st .pre .0 .holds .some-sum)))
+    let inside : M < length (st .args .sums .now) = omega (arith, st .pre .0 .holds .some-sum) in
+    omega (arith, c .min .ensures, place-fits (st .args .sums .now) (st .pre .0 .holds) M inside, total-in-memory)
 
 -- it is the smaller of the one given and T(M)
 rate-is : (c : tie.After-min) → let a = c .before .before .before .before .args in

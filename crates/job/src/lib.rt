@@ -446,17 +446,19 @@ fn some_frame_wrong(s: &[u8], nodes: usize, frames: usize) -> bool
     false
 }
 
-// Rows 7 to 10, of a job whose counts and length are right.
+// Rows 7 to 10, of a job whose counts and length are right. The frames are looked at even where a record is refused: after that test the
+// compiler takes their loop for one that is seldom reached and doesn't align it, and it may take twice as long.
 fn read_rest(s: &[u8], job: Job) -> Reading
     requires { ⌜ Sized (now s) × (job ≡ emptyJob (now s)) ⌝ }
     ensures { λ r. ⌜ r ≡ refusedOr (restRefusal (now (s .entry))) (fullJob (now (s .entry))) ⌝ }
 {
     let inner = read_parents(s, job).inner_nodes();
     let read = read_nodes(s, job, inner);
+    let large = some_frame_wrong(s, job.nodes, job.frames);
     if read.refusal != 0 {
         return read;
     }
-    if some_frame_wrong(s, job.nodes, job.frames) {
+    if large {
         return refused(Frame::LARGE_FRAME);
     }
     read

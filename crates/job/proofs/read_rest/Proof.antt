@@ -46,40 +46,42 @@ row-is c =
     let s = c .before .before .before .before .args .s .now in
     ap (λ (r : Reading). r .refusal) (rows-is c) ∙ refusedOr-number (nodesRefusal (treeOf s)) (read-of s)
 
+some-frame-wrong-requires : tie.Need-some-frame-wrong-requires
+some-frame-wrong-requires c κs =
+    let st = c .before .before .before .before in
+    (st .pre .0, (ap (λ (j : Job). j .nodes) (st .pre .1), ap (λ (j : Job). j .frames) (st .pre .1)))
+
 -- past the nodes only the frames are left
-rest-is : (c : tie.After-some-frame-wrong) → restRefusal (c .before .before .before .before .before .before .before .args .s .now) ≡ cond (c .some-frame-wrong .result) 10 0
-rest-is c =
-    let b = c .before .before .before in
-    let s = b .before .before .before .before .args .s .now in
-    orElse-second (nodesRefusal (treeOf s)) _ (sym (row-is b) ∙ c .before .if1 .left) ∙ rw (c .some-frame-wrong .ensures) refl
+rest-is : (c : tie.After-some-frame-wrong) → c .before .read-nodes .result .refusal ≡ 0
+    → restRefusal (c .before .before .before .before .before .args .s .now) ≡ cond (c .some-frame-wrong .result) 10 0
+rest-is c none =
+    let s = c .before .before .before .before .before .args .s .now in
+    orElse-second (nodesRefusal (treeOf s)) _ (sym (row-is (c .before)) ∙ none) ∙ rw (c .some-frame-wrong .ensures) refl
 
 returns : tie.Need-returns
 returns c =
-    let b = c .before .before in
+    let b = c .before .before .before in
     let s = b .before .before .before .before .args .s .now in
     rows-is b ∙ ap (λ (a : ℕ). refusedOr a (read-of s)) (sym (orElse-first (nodesRefusal (treeOf s)) _ (λ z. c .if1 .taken (row-is b ∙ z))))
-
-some-frame-wrong-requires : tie.Need-some-frame-wrong-requires
-some-frame-wrong-requires c κs =
-    let st = c .before .before .before .before .before .before in
-    (st .pre .0, (ap (λ (j : Job). j .nodes) (st .pre .1), ap (λ (j : Job). j .frames) (st .pre .1)))
 
 refused-requires : tie.Need-refused-requires
 refused-requires c κs = search needs
 
 returns-2 : tie.Need-returns-2
 returns-2 c =
-    let w = c .before .before in
-    let s = w .before .before .before .before .before .before .before .args .s .now in
-    let ten : restRefusal s ≡ 10 = rest-is w ∙ rw (c .before .if2 .taken) refl in
+    let past = c .before .before in
+    let w = past .before .before in
+    let s = w .before .before .before .before .before .args .s .now in
+    let ten : restRefusal s ≡ 10 = rest-is w (past .if1 .left) ∙ rw (c .before .if2 .taken) refl in
     c .refused .ensures ∙ sym (ap (λ (a : ℕ). refusedOr a (read-of s)) ten)
 
 returns-3 : tie.Need-returns-3
 returns-3 c =
-    let w = c .before in
-    let s = w .before .before .before .before .before .before .before .args .s .now in
-    let none : restRefusal s ≡ 0 = rest-is w ∙ rw (c .if2 .left) refl in
-    rows-is (w .before .before .before) ∙ ap (λ (a : ℕ). refusedOr a (read-of s)) (sym (row-is (w .before .before .before)) ∙ w .before .if1 .left ∙ sym none)
+    let past = c .before in
+    let w = past .before .before in
+    let s = w .before .before .before .before .before .args .s .now in
+    let none : restRefusal s ≡ 0 = rest-is w (past .if1 .left) ∙ rw (c .if2 .left) refl in
+    rows-is (w .before) ∙ ap (λ (a : ℕ). refusedOr a (read-of s)) (sym (row-is (w .before)) ∙ past .if1 .left ∙ sym none)
 
 pub read-rest-spec : {M : Type 1} → statement M
 read-rest-spec =
@@ -88,8 +90,8 @@ read-rest-spec =
     read-parents-requires
     inner-nodes-requires
     read-nodes-requires
-    returns
     some-frame-wrong-requires
+    returns
     refused-requires
     returns-2
     returns-3)

@@ -8,8 +8,8 @@ use crate::library::Answer;
 pub const MOST_NODES: usize = 64;
 pub const MOST_FRAMES: usize = 65_536;
 pub const MOST_DELAY: usize = 4_096;
-const MOST_BYTES: u64 = 1_099_511_627_775;
-const MOST_FRAME: u32 = 16_777_215;
+const MOST_BYTES: u64 = 17_592_186_044_415;
+pub const MOST_FRAME: u32 = 268_435_455;
 const MOST_SLOTS: usize = MOST_FRAMES + MOST_DELAY + 1;
 
 /// Slots in a stretch of the passes over the tree.

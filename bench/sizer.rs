@@ -5,7 +5,7 @@
 //! at a time. Nodes of one floor rate have one need, which is found once.
 
 use crate::library::RateAnswer;
-use crate::peer::{read, Node, MOST_DELAY, MOST_FRAMES, MOST_NODES};
+use crate::peer::{read, Node, MOST_DELAY, MOST_FRAME, MOST_FRAMES, MOST_NODES};
 
 /// Rates that go through the film together.
 const LANES: usize = 8;
@@ -85,7 +85,7 @@ impl Sizer {
 fn delay(film: &[f64], rate: u64) -> Option<u64> {
     let (mut ahead, mut most) = (0.0, 0.0);
     // No frame is larger, so a higher rate is as good; the sums stay below 2^53.
-    let slow = rate.min(1 << 24) as f64;
+    let slow = rate.min(u64::from(MOST_FRAME)) as f64;
     for &frame in film {
         ahead += frame - slow;
         most = larger(ahead, most);

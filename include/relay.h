@@ -20,9 +20,9 @@ extern "C" {
 #define RELAY_FEWEST_FRAMES 1
 #define RELAY_MOST_FRAMES 65536
 #define RELAY_LONGEST_DELAY 4096
-#define RELAY_GREATEST_MEMORY UINT64_C(1099511627775)
-#define RELAY_GREATEST_RATE UINT64_C(1099511627775)
-#define RELAY_GREATEST_FRAME 16777215
+#define RELAY_GREATEST_MEMORY UINT64_C(17592186044415)
+#define RELAY_GREATEST_RATE UINT64_C(17592186044415)
+#define RELAY_GREATEST_FRAME 268435455
 
 /*
  * How many numbers a running tree is: the slot number, and in place i after it
@@ -66,8 +66,9 @@ extern "C" {
 #define RELAY_BAD_PARENT 7     /* some parent is not below its child's number */
 #define RELAY_BAD_DELAY 8      /* an inner node's delay is not 0, or a leaf's is
                                   above 4,096 */
-#define RELAY_LARGE_MEMORY 9   /* a memory or a rate is above 1,099,511,627,775 */
-#define RELAY_LARGE_FRAME 10   /* a frame is above 16,777,215 */
+#define RELAY_LARGE_MEMORY 9   /* a memory is above RELAY_GREATEST_MEMORY, or a
+                                  rate above RELAY_GREATEST_RATE */
+#define RELAY_LARGE_FRAME 10   /* a frame is above RELAY_GREATEST_FRAME */
 #define RELAY_BAD_LENT 11      /* something lent has the wrong length */
 #define RELAY_NO_PLAN 12       /* no plan serves every leaf in time within the
                                   memories */
@@ -235,7 +236,7 @@ uint64_t relay_constant_rates(
  * turn, and the bytes are as they were:
  *
  *    8  `delay` is above 4,096
- *    9  one of `memories` is above 1,099,511,627,775, however many they are
+ *    9  one of `memories` is above RELAY_GREATEST_MEMORY, however many they are
  *   11  `memories_length` is not n-1
  *
  * `job` must point to at least `job_length` writable bytes and `memories` to at

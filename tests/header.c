@@ -403,14 +403,14 @@ static void put_back(void)
            relay_put_back(job, sizeof job, 4096, memories, 4));
     expect("put back, long delay and many memories", 8,
            relay_put_back(job, sizeof job, 4097, memories, 4));
-    memories[3] = 1099511627776;
+    memories[3] = RELAY_GREATEST_MEMORY + 1;
     expect("put back, many memories, the last too large", 9,
            relay_put_back(job, sizeof job, 4096, memories, 4));
     expect("put back, few memories, none of them too large", 11,
            relay_put_back(job, sizeof job, 4096, memories, 2));
     expect("put back, no memories", 11,
            relay_put_back(job, sizeof job, 4096, memories + 3, 0));
-    memories[2] = 1099511627776;
+    memories[2] = RELAY_GREATEST_MEMORY + 1;
     expect("put back, long delay", 8,
            relay_put_back(job, sizeof job, 4097, memories, 3));
     expect("put back, large memory", 9,

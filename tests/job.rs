@@ -3,8 +3,8 @@
 pub const MOST_NODES: usize = 64;
 pub const MOST_FRAMES: usize = 65_536;
 pub const GREATEST_DELAY: u16 = 4_096;
-pub const GREATEST_AMOUNT: u64 = 1_099_511_627_775;
-pub const GREATEST_FRAME: u32 = 16_777_215;
+pub const GREATEST_AMOUNT: u64 = 17_592_186_044_415;
+pub const GREATEST_FRAME: u32 = 268_435_455;
 
 pub const HEADER_BYTES: usize = 10;
 pub const RECORD_BYTES: usize = 19;

@@ -299,7 +299,7 @@ fn sized(links: usize, slots: usize, rng: &mut Rng) -> Job {
     let mut job = valid(shape, links + 1, last - delay, rng);
     for record in &mut job.records {
         record.delay = 0;
-        record.memory = record.memory.max(1 << 32);
+        record.memory = record.memory.max(1 << 36);
         record.rate >>= rng.below(20);
     }
     let leaf = rng.pick(&job.nodes(false));

@@ -67,13 +67,13 @@ pub fn refusal(bytes: &[u8]) -> u64 {
         }
     }
     for node in &nodes {
-        if node.memory > 1_099_511_627_775 || node.rate > 1_099_511_627_775 {
+        if node.memory > 17_592_186_044_415 || node.rate > 17_592_186_044_415 {
             return 9;
         }
     }
     let frames = &bytes[10 + 19 * (n as usize - 1)..];
     for frame in frames.chunks(4) {
-        if number(frame) > 16_777_215 {
+        if number(frame) > 268_435_455 {
             return 10;
         }
     }

@@ -14,7 +14,7 @@ use crate::section::{Count, Section, Tally, ONE};
 use crate::shapes::{any_valid, few_frames, large_valid, valid, Shape, SHAPES};
 use crate::{edges, garbage, reader};
 
-/// The document's limits in the header's order: the nodes, the frames, the longest
+/// The documents' limits in the header's order: the nodes, the frames, the longest
 /// delay, the greatest memory, rate and frame, the numbers of a running tree, the most
 /// constant rates of a call and the numbers of the line of each.
 const DUE_LIMITS: [u64; LIMITS] = [
@@ -23,9 +23,9 @@ const DUE_LIMITS: [u64; LIMITS] = [
     1,
     65_536,
     4_096,
-    1_099_511_627_775,
-    1_099_511_627_775,
-    16_777_215,
+    17_592_186_044_415,
+    17_592_186_044_415,
+    268_435_455,
     65,
     8,
     3,

@@ -248,9 +248,9 @@ fn wide(parents: &[u8], rng: &mut Rng) -> Job {
         frame: u64::from(GREATEST_FRAME),
         delay: u64::from(GREATEST_DELAY),
         // Enough for any difference of the delays.
-        leaf_least: 1 << 36,
-        leaf_memory: 1 << 36,
-        inner_memory: 1 << 27,
+        leaf_least: 1 << 40,
+        leaf_memory: 1 << 40,
+        inner_memory: 1 << 31,
     };
     let mut job = fill(parents, MOST_FRAMES, &bounds, rng);
     let leaves = job.nodes(false);

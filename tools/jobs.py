@@ -1,5 +1,5 @@
-"""A job as document 01 has it: its bytes, the table of refusals 1 to 10, and the curves. Written from the document alone, so that it
-can be held against the proved library. The commands beside it use it, and read and write their files by it."""
+"""A job as documents 01 and 02 have it: its bytes, the table of refusals 1 to 10, and the curves. Written from the documents alone, so
+that it can be held against the proved library. The commands beside it use it, and read and write their files by it."""
 import contextlib
 import errno
 import os
@@ -13,8 +13,8 @@ VERSION = 1
 MOST_NODES = 64
 MOST_FRAMES = 65_536
 GREATEST_DELAY = 4_096
-GREATEST_AMOUNT = 1_099_511_627_775
-GREATEST_FRAME = 16_777_215
+GREATEST_AMOUNT = 17_592_186_044_415
+GREATEST_FRAME = 268_435_455
 HEAD, RECORD, FRAME = 10, 19, 4
 # The fields of a record in their order, with their widths in bytes.
 WIDTHS = {"parent": 1, "delay": 2, "memory": 8, "rate": 8}

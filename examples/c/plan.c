@@ -52,8 +52,8 @@ static const char *meaning(uint64_t number)
         "the length does not fit the node count and the frame count",
         "some parent is not below its child's number",
         "an inner node's delay is not 0, or a leaf's is above 4,096",
-        "a memory or a rate is above 1,099,511,627,775",
-        "a frame is above 16,777,215 bytes",
+        "a memory or a rate is above 17,592,186,044,415",
+        "a frame is above 268,435,455 bytes",
         "an output of the wrong length",
         "no plan serves every leaf in time within the memories",
         "no delay up to 4,096 serves within the rates",
@@ -326,14 +326,14 @@ static enum status print_lines(const uint64_t *rates, size_t count,
     enum status status = ANSWERED;
     size_t i;
 
-    printf("%20s  %6s  %12s  %13s\n", "rate, bytes a slot", "number",
+    printf("%20s  %6s  %12s  %14s\n", "rate, bytes a slot", "number",
            "delay, slots", "memory, bytes");
     for (i = 0; i < count; i++) {
         const uint64_t *line = lines + RELAY_LINE_LENGTH * i;
 
         printf("%20" PRIu64 "  %6" PRIu64, rates[i], line[0]);
         if (line[0] == 0) {
-            printf("  %12" PRIu64 "  %13" PRIu64 "\n", line[1], line[2]);
+            printf("  %12" PRIu64 "  %14" PRIu64 "\n", line[1], line[2]);
         } else {
             printf("  no delay up to 4,096 serves\n");
             status = REFUSED;

@@ -1,4 +1,5 @@
--- The bounds of document 01, each once. In src/ each is an associated constant of the type that it bounds; `Limits::all` ties the two.
+-- The bounds of document 01 and, of a memory, a rate and a frame, of document 02's L2, each once. In src/ each is an associated constant of
+-- the type that it bounds; `Limits::all` ties the two.
 use Prim.Native.Nat.{ℕ, _+_, _*_}
 
 -- node count n
@@ -21,15 +22,15 @@ longestDelay = 4096
 
 -- memory of a node, in bytes
 abbrev pub greatestMemory : ℕ
-greatestMemory = 1099511627775
+greatestMemory = 17592186044415
 
--- rate of a link, in bytes a slot: document 01 gives memory and rate one bound
+-- rate of a link, in bytes a slot: memory and rate have one bound
 abbrev pub greatestRate : ℕ
 greatestRate = greatestMemory
 
 -- size of a frame, in bytes
 abbrev pub greatestFrame : ℕ
-greatestFrame = 16777215
+greatestFrame = 268435455
 
 -- ---- what follows from them
 

@@ -32,7 +32,7 @@ pub enum FrameMade {
 }
 
 impl Frame {
-    pub const GREATEST: u64 = 16_777_215;
+    pub const GREATEST: u64 = 268_435_455;
 
     pub const LARGE_FRAME: u64 = 10;
     // Bytes that a size takes in a job.
@@ -76,7 +76,7 @@ fn delay_wrong(leaf: bool, delay: usize) -> bool
 impl Node {
     pub const LONGEST_DELAY: usize = 4096;
 
-    pub const GREATEST_MEMORY: u64 = 1_099_511_627_775;
+    pub const GREATEST_MEMORY: u64 = 17_592_186_044_415;
 
     pub const GREATEST_RATE: u64 = Node::GREATEST_MEMORY;
     // Bytes that a record takes in a job.

@@ -6,7 +6,7 @@ use crate::job::{Job, Record};
 use crate::reading::Case;
 use crate::relax::Planner;
 use crate::rng::Rng;
-use crate::shapes::{valid, Shape, SHAPES};
+use crate::shapes::{at_bounds, valid, Shape, SHAPES};
 
 const VERSIONS: [(u16, u64); 6] = [(0, 3), (1, 0), (2, 3), (256, 3), (257, 3), (u16::MAX, 3)];
 
@@ -43,10 +43,10 @@ const INNER_DELAYS: [(u16, u64); 6] = [
 
 const AMOUNTS: [(u64, u64); 9] = [
     (0, 0),
-    (1_099_511_627_774, 0),
-    (1_099_511_627_775, 0),
-    (1_099_511_627_776, 9),
-    (1_099_511_627_777, 9),
+    (17_592_186_044_414, 0),
+    (17_592_186_044_415, 0),
+    (17_592_186_044_416, 9),
+    (17_592_186_044_417, 9),
     (1 << 48, 9),
     (1 << 56, 9),
     (1 << 63, 9),
@@ -55,12 +55,20 @@ const AMOUNTS: [(u64, u64); 9] = [
 
 const FRAMES: [(u32, u64); 7] = [
     (0, 0),
-    (16_777_214, 0),
-    (16_777_215, 0),
-    (16_777_216, 10),
-    (16_777_217, 10),
+    (268_435_454, 0),
+    (268_435_455, 0),
+    (268_435_456, 10),
+    (268_435_457, 10),
     (1 << 31, 10),
     (u32::MAX, 10),
+];
+
+/// Fields moved past their bounds, where they are at them. Node 63 is a leaf in each tree.
+const PAST: [(fn(&mut Job), u64); 4] = [
+    (|job| job.record(63).delay += 1, 8),
+    (|job| job.record(63).memory += 1, 9),
+    (|job| job.record(63).rate += 1, 9),
+    (|job| job.frames[65_535] += 1, 10),
 ];
 
 /// Tree Q with delays 0 and 1, memories 4, 0, 6 and rates 5, 10, 4, by hand.
@@ -264,7 +272,8 @@ pub fn fields(rng: &mut Rng) -> Vec<Case> {
     cases
 }
 
-/// Jobs of the greatest size, with the last field of each sort at its bound.
+/// Jobs of the greatest size: with the last frame about its bound, and with every field
+/// at its bound or one of them past it.
 pub fn largest(rng: &mut Rng) -> Vec<Case> {
     let mut cases = Vec::new();
     for shape in SHAPES {
@@ -278,6 +287,14 @@ pub fn largest(rng: &mut Rng) -> Vec<Case> {
         let bytes = job.encode();
         cases.push(Case::known(bytes[..bytes.len() - 1].to_vec(), 6));
         cases.push(Case::known([&bytes[..], &[0]].concat(), 6));
+
+        let job = at_bounds(shape, rng);
+        cases.push(Case::known(job.encode(), 0));
+        for (pass, expected) in PAST {
+            let mut job = job.clone();
+            pass(&mut job);
+            cases.push(Case::known(job.encode(), expected));
+        }
     }
     cases
 }

@@ -3,10 +3,10 @@
 
 use crate::edges::{example_jobs, TREE_Q};
 use crate::faults::{one_or_two, with_faults};
-use crate::job::{Job, GREATEST_DELAY, GREATEST_FRAME, MOST_FRAMES, MOST_NODES};
+use crate::job::{Job, GREATEST_AMOUNT, GREATEST_DELAY, GREATEST_FRAME, MOST_FRAMES, MOST_NODES};
 use crate::rng::Rng;
 use crate::sending::{Case, Known, Line, LENGTHS, LONGEST_LIST};
-use crate::shapes::{valid, SHAPES};
+use crate::shapes::{at_bounds, valid, SHAPES};
 use crate::steady::Film;
 
 const MOST: u64 = u64::MAX;
@@ -140,15 +140,17 @@ pub fn tiny(_: u64, rng: &mut Rng) -> Case {
     Case::new(&showing(film, rng), rates)
 }
 
+/// A job with rates and the line of each.
+fn by_hand(job: &Job, lines: &[(u64, Line)]) -> Case {
+    let rates = lines.iter().map(|(rate, _)| *rate).collect();
+    let lines = lines.iter().map(|(_, line)| *line).collect();
+    Case::new(job, rates).knowing(Known::All(lines))
+}
+
 /// The document's Tree Q, its film of zeros and its frames at the limit of rate 1, by
 /// hand. Tree Q's film has the sums 4, 14, 15: at rate 5 the link has carried 5, 10, 15,
 /// so that 14 are there one slot late; with delay 1 most waits at slot 2, 10 less 4.
 pub fn examples(_: &mut Rng) -> Vec<Case> {
-    let by_hand = |job: &Job, lines: &[(u64, Line)]| {
-        let rates = lines.iter().map(|(rate, _)| *rate).collect();
-        let lines = lines.iter().map(|(_, line)| *line).collect();
-        Case::new(job, rates).knowing(Known::All(lines))
-    };
     let jobs = example_jobs();
     vec![
         by_hand(
@@ -223,6 +225,26 @@ pub fn extremes(rng: &mut Rng) -> Vec<Case> {
         }
     }
     cases
+}
+
+/// Every field of the job at its bound, the lines by hand. From T(M) on all of it is there
+/// by slot 1, when one frame is played. At the frames' own rate nothing waits; one byte
+/// below it all that came in slot 1 does, for a slot. 252,645,135 is the least rate that
+/// carries T(M) in 65,536 + 4,096 slots, and most then waits at slot 4,096.
+pub fn all_at_bounds(rng: &mut Rng) -> Vec<Case> {
+    let lines: [(u64, Line); 8] = [
+        (MOST, [0, 0, 17_591_917_543_425]),
+        (GREATEST_AMOUNT, [0, 0, 17_591_917_543_425]),
+        (17_592_185_978_880, [0, 0, 17_591_917_543_425]),
+        (17_592_185_978_879, [0, 0, 17_591_917_543_424]),
+        (268_435_455, [0, 0, 0]),
+        (268_435_454, [0, 1, 268_435_454]),
+        (252_645_135, [0, 4_096, 1_034_834_472_960]),
+        (252_645_134, NONE),
+    ];
+    SHAPES
+        .map(|shape| by_hand(&at_bounds(shape, rng), &lines))
+        .into()
 }
 
 /// Films of about these lengths.

@@ -9,6 +9,7 @@ use crate::problem::Problem;
 use crate::section::Kind::{self, Fixed, Random};
 use crate::section::Wanted::{All, Any, RandomShare};
 use crate::section::{Count, Section, Tally, ONE};
+use crate::shapes::{at_bounds, SHAPES};
 use crate::trees;
 
 /// Links of the largest plan whose peaks are tried one lower.
@@ -35,6 +36,10 @@ impl Section for Planning {
         Random("wrong lengths", 20, trees::wrong_length),
         Fixed("largest plan", |rng| {
             vec![Case::large(trees::largest(rng), TRIED)]
+        }),
+        Fixed("all at their bounds", |rng| {
+            let case = |shape| Case::large(at_bounds(shape, rng), TRIED);
+            SHAPES.map(case).into()
         }),
     ];
     const COUNTS: &'static [Count] = &[

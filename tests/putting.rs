@@ -4,7 +4,7 @@ use std::hash::Hash;
 
 use crate::edges::TREE_Q;
 use crate::faults::with_faults;
-use crate::job::{Job, GREATEST_AMOUNT, GREATEST_DELAY, MOST_FRAMES, MOST_NODES};
+use crate::job::{Job, Record, GREATEST_AMOUNT, GREATEST_DELAY, MOST_FRAMES, MOST_NODES};
 use crate::lending::Lent;
 use crate::library;
 use crate::problem::{equal, holds, same, Problem};
@@ -12,7 +12,7 @@ use crate::rng::Rng;
 use crate::section::Kind::{self, Fixed, Random};
 use crate::section::Wanted::All;
 use crate::section::{Count, Section, Tally, ONE};
-use crate::shapes::{any_valid, valid, SHAPES};
+use crate::shapes::{any_valid, at_bounds, valid, SHAPES};
 use crate::{reader, writer};
 
 /// Delays past the limit, some of which are short in their low bits alone.
@@ -45,6 +45,19 @@ pub struct Case {
     memories: Vec<u64>,
     /// The number, known by construction.
     number: u64,
+}
+
+impl Case {
+    /// A job with this answer, of which the number is known.
+    fn new(job: Job, delay: u64, memories: Vec<u64>, number: u64) -> Self {
+        Case {
+            bytes: job.encode(),
+            job: Some(job),
+            delay,
+            memories,
+            number,
+        }
+    }
 }
 
 pub struct Putting;
@@ -143,7 +156,7 @@ fn due(case: &Case) -> u64 {
         return 8;
     }
     for &memory in &case.memories {
-        if memory > 1_099_511_627_775 {
+        if memory > 17_592_186_044_415 {
             return 9;
         }
     }
@@ -189,19 +202,13 @@ fn tree_q(_: &mut Rng) -> Vec<Case> {
 
 /// Tree Q, which has three links, with this answer and number.
 fn by_hand(delay: u64, memories: &[u64], number: u64) -> Case {
-    Case {
-        bytes: TREE_Q.to_vec(),
-        job: Some(Job::decode(&TREE_Q)),
-        delay,
-        memories: memories.to_vec(),
-        number,
-    }
+    Case::new(Job::decode(&TREE_Q), delay, memories.to_vec(), number)
 }
 
 /// Answers in which a long delay, a large memory and a wrong length meet, by hand. Where
 /// no memories are lent none is large, whatever lies there.
 fn told_apart(_: &mut Rng) -> Vec<Case> {
-    const L: u64 = 1_099_511_627_776;
+    const L: u64 = 17_592_186_044_416;
     vec![
         // A long delay with a wrong length.
         by_hand(4_097, &[], 8),
@@ -229,17 +236,10 @@ fn told_apart(_: &mut Rng) -> Vec<Case> {
 
 /// A job with memories of the right length, each number often at a bound.
 fn any_answer(job: Job, rng: &mut Rng) -> Case {
-    Case {
-        bytes: job.encode(),
-        delay: rng.up_to(u64::from(GREATEST_DELAY)),
-        memories: job
-            .records
-            .iter()
-            .map(|_| rng.up_to(GREATEST_AMOUNT))
-            .collect(),
-        job: Some(job),
-        number: 0,
-    }
+    let delay = rng.up_to(u64::from(GREATEST_DELAY));
+    let memory = |_: &Record| rng.up_to(GREATEST_AMOUNT);
+    let memories = job.records.iter().map(memory).collect();
+    Case::new(job, delay, memories, 0)
 }
 
 /// Lengths that are not `links`.
@@ -321,7 +321,8 @@ fn faulty(i: u64, rng: &mut Rng) -> Case {
     case
 }
 
-/// The most nodes and frames: accepted, and with each fault of the answer.
+/// The most nodes and frames: accepted, and with each fault of the answer. The same with
+/// every field of job and answer at its bound, and with one of the answer's past it.
 fn largest(rng: &mut Rng) -> Vec<Case> {
     let mut cases = Vec::new();
     for shape in SHAPES {
@@ -331,6 +332,12 @@ fn largest(rng: &mut Rng) -> Vec<Case> {
                 plant(&mut case, number, rng);
             }
             cases.push(case);
+        }
+        let job = at_bounds(shape, rng);
+        for (delay, over, number) in [(4_096, 0, 0), (4_097, 0, 8), (4_096, 1, 9)] {
+            let mut memories = vec![GREATEST_AMOUNT; MOST_NODES - 1];
+            memories[MOST_NODES - 2] += over;
+            cases.push(Case::new(job.clone(), delay, memories, number));
         }
     }
     cases

@@ -8,7 +8,7 @@ use crate::job::{
 };
 use crate::lazy;
 use crate::rng::Rng;
-use crate::shapes::{Shape, SHAPES, TREES_OF_2, TREES_OF_3, TREES_OF_4};
+use crate::shapes::{at_bounds, Shape, SHAPES, TREES_OF_2, TREES_OF_3, TREES_OF_4};
 use crate::sizing::Case;
 
 /// A job with these parents, rates and frames.
@@ -240,14 +240,14 @@ fn one_stopped(parents: &[u8], count: usize, rng: &mut Rng) -> Vec<Case> {
     cases
 }
 
-/// One frame at the limit is 4,095 × 4,097: at rate 4,095 the delay is 4,096. The
-/// film at the limit of rate 1 and one byte more.
+/// One frame at the limit is 65,520 × 4,097 + 15: from rate 65,521 on the delay is at most
+/// 4,096, and at rate 65,536 it is 4,095. The film at the limit of rate 1 and one byte more.
 fn longest_delay(parents: &[u8], rng: &mut Rng) -> Vec<Case> {
     let mut cases = Vec::new();
     for (frame, least, delay) in [
-        (GREATEST_FRAME, 4_096, 4_095),
-        (GREATEST_FRAME, 4_095, 4_096),
-        (GREATEST_FRAME, 4_094, 4_098),
+        (GREATEST_FRAME, 65_536, 4_095),
+        (GREATEST_FRAME, 65_521, 4_096),
+        (GREATEST_FRAME, 65_520, 4_097),
         (4_096, 1, 4_095),
         (4_097, 1, 4_096),
         (4_098, 1, 4_097),
@@ -285,8 +285,8 @@ fn differing(least: u64, links: usize, rng: &mut Rng) -> Vec<u64> {
 }
 
 /// The most frames, of each shape on the most nodes: random films, all frames 0 at
-/// rate 0, and all at the limit with the delay at its limit and one past it. Three
-/// plans are asked for.
+/// rate 0, every field at its limit, and all frames at the limit with the delay at its
+/// limit and one past it. Some plans are asked for.
 pub fn most_frames(rng: &mut Rng) -> Vec<Case> {
     let mut cases = Vec::new();
     for (i, shape) in SHAPES.into_iter().enumerate() {
@@ -305,8 +305,10 @@ pub fn most_frames(rng: &mut Rng) -> Vec<Case> {
         cases.push(Case::known(made(&parents, &vec![0; links], zeros, rng), 0));
         let rates = vec![GREATEST_AMOUNT; links];
         cases.push(Case::known(made(&parents, &rates, film, rng), 0));
-        // 16,777,215 × 65,536 is 15,790,320 × (65,536 + 4,096).
-        for (least, delay) in [(15_790_320, 4_096), (15_790_319, 4_097)] {
+        let case = Case::known(at_bounds(shape, rng), 0);
+        cases.push(if i % 3 == 0 { case.asked() } else { case });
+        // 268,435,455 × 65,536 is 252,645,134 × (65,536 + 4,096) and 8,192 more.
+        for (least, delay) in [(252_645_135, 4_096), (252_645_134, 4_097)] {
             let mut rates = differing(least + 1, links, rng);
             rates[rng.index(links)] = least;
             let frames = vec![GREATEST_FRAME; MOST_FRAMES];
@@ -322,7 +324,7 @@ pub fn most_frames(rng: &mut Rng) -> Vec<Case> {
 /// frames of 0, or scenes alone; with noise on every frame.
 fn film(count: usize, rng: &mut Rng) -> Vec<u32> {
     let sort = rng.below(4);
-    let size = rng.pick(&[40, 5_000, 1_900_000]);
+    let size = rng.pick(&[40, 5_000, 31_900_000]);
     let mut weight = rng.within(1..=5);
     let mut frames = Vec::with_capacity(count);
     for m in 0..count {

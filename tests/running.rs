@@ -12,7 +12,7 @@ use crate::rng::Rng;
 use crate::rules::Rules;
 use crate::section::Kind::{self, Fixed, Random};
 use crate::section::{Count, Section, Tally, Wanted, ONE};
-use crate::shapes::{few_frames, SHAPES, TREES_OF_2, TREES_OF_3, TREES_OF_4};
+use crate::shapes::{at_bounds, few_frames, Shape, SHAPES, TREES_OF_2, TREES_OF_3, TREES_OF_4};
 use crate::stepping::{self, due, Breach, Case, Due, BROKEN, DONE, TAKEN, WRONG_LENGTH};
 use crate::trees;
 
@@ -40,13 +40,16 @@ impl Section for Steps {
         Fixed("refusals in order", refusals),
         Fixed("foreign plans", foreign),
         Fixed("planned jobs", planned),
-        Fixed("largest", largest),
+        Fixed("largest", |rng| largest(trees::largest(rng), rng)),
         Random("fitting", 250, |_, rng| fitting(rng)),
         Random("changed", 450, |_, rng| changed(rng)),
         Random("anything", 100, |_, rng| anything(rng)),
         Random("slots past the last", 50, |_, rng| past(rng)),
         Random("wrong lengths", 75, wrong_length),
         Random("faults", 75, faulty),
+        Fixed("all at their bounds", |rng| {
+            largest(at_bounds(Shape::Random, rng), rng)
+        }),
     ];
     /// Numbers are those of taken (0), refused, broken (14) and done (100) steps.
     const COUNTS: &'static [Count] = &[
@@ -383,10 +386,9 @@ fn planned(rng: &mut Rng) -> Vec<Case> {
     cases
 }
 
-/// The most nodes and frames and the greatest delay: the plan's first steps, its
+/// A job of the most nodes and frames and the greatest delay: the plan's first steps, its
 /// last one and done; and columns that fit and do not.
-fn largest(rng: &mut Rng) -> Vec<Case> {
-    let job = trees::largest(rng);
+fn largest(job: Job, rng: &mut Rng) -> Vec<Case> {
     let (plan, links) = lengths(&job);
     let slots = plan / links;
     let plan = plan_of(&job).expect("the largest job has a plan");

@@ -89,6 +89,7 @@ impl Section for Sending {
         Random("faults", 36, films::faulty),
         Random("wrong counts", 12, films::wrong_count),
         Random("wrong lists", 12, films::wrong_list),
+        Fixed("all at their bounds", films::all_at_bounds),
     ];
     const COUNTS: &'static [Count] = &[
         ("calls", ONE, All(20_000)),

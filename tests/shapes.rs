@@ -80,6 +80,15 @@ pub fn valid(shape: Shape, nodes: usize, frames: usize, rng: &mut Rng) -> Job {
         1 => Fill::Limits,
         _ => Fill::Mixed,
     };
+    filled(fill, shape, nodes, frames, rng)
+}
+
+/// The largest job of this shape, with every field at its bound.
+pub fn at_bounds(shape: Shape, rng: &mut Rng) -> Job {
+    filled(Fill::Limits, shape, MOST_NODES, MOST_FRAMES, rng)
+}
+
+fn filled(fill: Fill, shape: Shape, nodes: usize, frames: usize, rng: &mut Rng) -> Job {
     let parents = shape.parents(nodes, rng);
     let mut records = Vec::with_capacity(nodes - 1);
     for (i, &parent) in parents.iter().enumerate() {

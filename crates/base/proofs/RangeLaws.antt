@@ -1,12 +1,13 @@
 -- Laws of the questions about the numbers below n, all of them or those that pass a test.
-use mathlib.Core.Bool.{Bool, true, false, cond}
-use mathlib.Core.Path.{_≡_, refl, ap, _∙_}
+use mathlib.Core.Bool.{Bool, true, false, cond, _||_}
+use mathlib.Core.Path.{_≡_, refl, ap, sym, _∙_}
 use mathlib.Core.Logic.{_⊎_, inl, inr, ⊎-elim}
 use Prim.Native.Nat.{ℕ, zero, suc, _+_, _-_, _*_, _≤_, _<_, max, min}
 use native.Mathlib.Nat.{suc-mul, add-zero, add-suc}
 use native.Mathlib.Omega.{arith}
 use Rattle.base.specs.Range.{sum, sumOver, some, first, fold, greatest, greatestOver, leastOver}
-use Rattle.base.proofs.BoolLaws.{true-or-false, not-both, or-no-left, or-no-right, or-cases, cond-both, lt-or-le, last-or-below}
+use Rattle.base.proofs.BoolLaws.{true-or-false, not-both, or-no-left, or-no-right, or-right, or-cases, cond-both}
+use Rattle.base.proofs.BoolLaws.{lt-or-le, last-or-below}
 
 -- ---- sums
 
@@ -149,6 +150,20 @@ greatestOver-under p f (suc n) m h =
     (λ (e : p n ≡ true). rw e (omega (arith, greatestOver-under p f n m (λ i l. h i (omega arith)), h n (omega arith) e)))
     (λ (e : p n ≡ false). rw e (greatestOver-under p f n m (λ i l. h i (omega arith))))
     (true-or-false (p n))
+
+-- over those that pass one test or the other
+pub greatestOver-either : (p q r : ℕ → Bool) (f : ℕ → ℕ) (n : ℕ) → ((i : ℕ) → p i ≡ (q i || r i))
+    → greatestOver p f n ≡ max (greatestOver q f n) (greatestOver r f n)
+greatestOver-either p q r f n each =
+    omega (
+      arith,
+      greatestOver-under p f n (max (greatestOver q f n) (greatestOver r f n)) (λ i l h. ⊎-elim
+          (λ (u : q i ≡ true). omega (arith, greatestOver-above q f n i l u))
+          (λ (u : r i ≡ true). omega (arith, greatestOver-above r f n i l u))
+          (or-cases (q i) (r i) (sym (each i) ∙ h))),
+      greatestOver-under q f n (greatestOver p f n) (λ i l u. greatestOver-above p f n i l (each i ∙ rw u)),
+      greatestOver-under r f n (greatestOver p f n) (λ i l u. greatestOver-above p f n i l (each i ∙ or-right (q i) u)),
+    )
 
 -- ---- the least
 

@@ -7,7 +7,7 @@ use native.Mathlib.Nat.{pow-suc, div-one, pow-succ', div-div-eq-div-mul, one-mul
 use native.Mathlib.Omega.{arith}
 use lib.Pow.{shl-exact}
 use lib.Arith.{digits-div, digits-mod}
-use lib.Bits.{bitAnd, bitOr, and-step, or-step, and-self}
+use lib.Bits.{bitAnd, bitOr, bitXor, differ, and-step, or-step, xor-step, and-self}
 use lib.Count.{trailingZeros, under, ones, ones-step, trailing-of-zero}
 use lib.Dec.{eqb, ltb}
 use borrow.Author.Tests.{eq-eqb, ne-eqb, eqb-true, eqb-false, lt-ltb, le-ltb}
@@ -54,7 +54,7 @@ has-is s i h = has-bit s i ∙ eq-eqb (bit i s) 1 h
 has-isn't : (s i : ℕ) → bit i s ≡ 0 → has s i ≡ false
 has-isn't s i h = has-bit s i ∙ ne-eqb (bit i s) 1 (omega arith)
 
--- ---- the empty set, both, either, one
+-- ---- the empty set, both, either, one without the other, one
 
 pub has-none : (i : ℕ) → has 0 i ≡ false
 has-none i = has-isn't 0 i (bit-of-zero i)
@@ -64,6 +64,11 @@ min-lt a b h = omega arith
 
 max-lt : (a b : ℕ) → a < 2 → b < 2 → max a b < 2
 max-lt a b h k = omega arith
+
+differ-lt : (a b : ℕ) → a < 2 → b < 2 → differ a b < 2
+differ-lt zero b h k = k
+differ-lt (suc a) zero h k = h
+differ-lt (suc a) (suc b) h k = differ-lt a b (omega arith) (omega arith)
 
 bit-and : (i a b : ℕ) → bit i (bitAnd a b) ≡ min (bit i a) (bit i b)
 unfolding bit
@@ -96,6 +101,29 @@ has-either a b i = go (true-or-false (has a i)) (true-or-false (has b i))
     go (inl p) q = rw p (has-is (bitOr a b) i (omega (arith, bit-or i a b, bit-is a i p, bit-lt i b)))
     go (inr p) (inl q) = rw (p, q) (has-is (bitOr a b) i (omega (arith, bit-or i a b, bit-isn't a i p, bit-is b i q)))
     go (inr p) (inr q) = rw (p, q) (has-isn't (bitOr a b) i (omega (arith, bit-or i a b, bit-isn't a i p, bit-isn't b i q)))
+
+bit-xor : (i a b : ℕ) → bit i (bitXor a b) ≡ differ (bit i a) (bit i b)
+unfolding bit
+bit-xor zero a b = ap (λ (x : ℕ). x % 2) (xor-step a b)
+    ∙ digits-mod (bitXor (a / 2) (b / 2)) (differ-lt (a % 2) (b % 2) (omega arith) (omega arith))
+bit-xor (suc i) a b =
+    ap (λ (x : ℕ). bit i (x / 2)) (xor-step a b)
+    ∙ ap (bit i) (digits-div (bitXor (a / 2) (b / 2)) (differ-lt (a % 2) (b % 2) (omega arith) (omega arith)))
+    ∙ bit-xor i (a / 2) (b / 2)
+
+-- what is in a and not in b, as the word (a | b) ^ b
+pub has-outside : (a b i : ℕ) → has (bitXor (bitOr a b) b) i ≡ (has a i && not (has b i))
+has-outside a b i = go (true-or-false (has a i)) (true-or-false (has b i))
+  where
+    digit : bit i (bitXor (bitOr a b) b) ≡ differ (max (bit i a) (bit i b)) (bit i b)
+    digit = bit-xor i (bitOr a b) b ∙ rw (bit-or i a b)
+
+    go : (has a i ≡ true) ⊎ (has a i ≡ false) → (has b i ≡ true) ⊎ (has b i ≡ false)
+        → has (bitXor (bitOr a b) b) i ≡ (has a i && not (has b i))
+    go (inl p) (inl q) = rw (p, q) (has-isn't _ i (digit ∙ rw (bit-is a i p, bit-is b i q) refl))
+    go (inl p) (inr q) = rw (p, q) (has-is _ i (digit ∙ rw (bit-is a i p, bit-isn't b i q) refl))
+    go (inr p) (inl q) = rw p (has-isn't _ i (digit ∙ rw (bit-isn't a i p, bit-is b i q) refl))
+    go (inr p) (inr q) = rw p (has-isn't _ i (digit ∙ rw (bit-isn't a i p, bit-isn't b i q) refl))
 
 bit-self : (j : ℕ) → bit j (2 ^ j) ≡ 1
 unfolding bit

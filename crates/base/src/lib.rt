@@ -118,6 +118,13 @@ pub fn common(a: u64, b: u64) -> u64
     a & b
 }
 
+// What is in a and not in b.
+pub fn outside(a: u64, b: u64) -> u64
+    ensures { λ r. ⌜ ((j : ℕ) → has r j ≡ (has a j && not (has b j))) ⌝ }
+{
+    (a | b) ^ b
+}
+
 // How many members s has.
 pub fn count(s: u64) -> usize
     ensures { λ r. ⌜ r ≡ howMany (has s) wordBits ⌝ }

@@ -8,34 +8,39 @@ use native.Mathlib.Omega.{arith}
 use native.Mathlib.Decide.{decLt}
 use lib.ListN.{length, getD, set, List·getD-append, length-append}
 use lib.Seq.{getD-append-add}
+use Rattle.base.specs.Set.{has}
 use Rattle.base.specs.Table.{tab, rowsOf}
 use Rattle.base.proofs.TableLaws.{length-tab, getD-tab, getD-rows, tab-cong}
 use Rattle.base.proofs.PartLaws.{rows-of-cells}
 use Rattle.job.specs.Limits.{greatestTotal}
-use Rattle.job.specs.Tree.{Tree, TreeWithin, leaf}
+use Rattle.job.specs.Tree.{Tree, TreeWithin, leaf, leafAt}
 use Rattle.smoothing.specs.Tree.{Link, «open»}
 use Rattle.smoothing.specs.Plan.{upper}
 use Rattle.smoothing.proofs.ClosedLaws.{open-monotone}
-use Rattle.rows.specs.Row.{InRange}
+use Rattle.rows.specs.Row.{raisedRow, InRange}
 use Rattle.rows.specs.Closing.{slotIn}
 use Rattle.curves.specs.Curves.{lowerCurve, upperCurve, high, problem}
-use Rattle.job.specs.Sums.{Film}
-use Rattle.curves.specs.Rows.{leastDelay, raised, lowered, roof, highRows, upperRows, leafLower}
+use Rattle.job.specs.Sums.{sumsIn, lastIn, HoldsSums}
+use Rattle.job.proofs.SumsLaws.{film-of}
+use Rattle.curves.specs.Rows.{mostPlayed, raisedByAll, loweredBy, roof, highRows, upperRows, leafLower}
 use Rattle.curves.proofs.LowerLaws.{parent-lower, D-leaf, lower-step}
 use Rattle.curves.proofs.UpperLaws.{high-under}
-use Rattle.curves.proofs.CurveEq.{upper-is, D-delay}
+use Rattle.curves.proofs.CurveEq.{upper-is, lower-top}
+use Rattle.curves.proofs.LeafLaws.{D-of-set}
 use Rattle.curves.proofs.RowLaws.{zero-slot}
 
 -- ---- one row of what a link's own rules allow
 
-module _ (t : Tree) (w : TreeWithin t) (T : ℕ → ℕ) (top i n : ℕ) where
-  pub roof-leaf : leaf t i ≡ true → tab (lowered (tab (λ k. top) n) T (t .delay i) (t .memory i)) n ≡ tab (roof t T top i) n
-  unfolding lowered roof
-  roof-leaf e = tab-cong _ _ n (λ k h. rw e (omega (arith, getD-tab (λ k. top) n k h, D-leaf t w T i k e)))
+pub roof-leaf : (t : Tree) → TreeWithin t → (sums : List ℕ) (top i n : ℕ) → leaf t i ≡ true
+    → loweredBy t sums i (tab (λ k. top) n) ≡ tab (roof t (sumsIn sums) top i) n
+unfolding loweredBy roof
+roof-leaf t w sums top i n e =
+    rw length-tab
+    (tab-cong _ _ n (λ k h. rw e (omega (arith, getD-tab (λ k. top) n k h, D-leaf t w (sumsIn sums) i k e))))
 
-  pub roof-inner : leaf t i ≡ false → tab (λ k. top) n ≡ tab (roof t T top i) n
-  unfolding roof
-  roof-inner e = tab-cong _ _ n (λ k h. rw e refl)
+pub roof-inner : (t : Tree) (T : ℕ → ℕ) (top i n : ℕ) → leaf t i ≡ false → tab (λ k. top) n ≡ tab (roof t T top i) n
+unfolding roof
+roof-inner t T top i n e = tab-cong _ _ n (λ k h. rw e refl)
 
 pub high-slots : (t : Tree) (T : ℕ → ℕ) (top i n : ℕ) → set (tab (roof t T top i) n) 0 0 ≡ tab (high t T top i) n
 unfolding roof high
@@ -95,24 +100,46 @@ module _ (t : Tree) (w : TreeWithin t) (T : ℕ → ℕ) (top n m : ℕ) where
 
 -- ---- a lower row from its parent's
 
-module _ (t : Tree) (w : TreeWithin t) (T : ℕ → ℕ) (top : ℕ) (film : Film T top) (v : ℕ) (link : Link (t .n) v) (inner : t .parent v ≢ 0) (n : ℕ)
-    (l : List ℕ) (above : l ≡ tab (lowerCurve t T (t .parent v)) n) where
-  -- slot by slot
-  from-parent : (k : ℕ) → k < n → lowerCurve t T v k ≡ max (T (k - leastDelay t v)) (getD l k 0 - t .memory (t .parent v))
-  from-parent k h =
-      let at : getD l k 0 ≡ lowerCurve t T (t .parent v) k = ap (λ (x : List ℕ). getD x k 0) above ∙ getD-tab (lowerCurve t T (t .parent v)) n k h in
-      lower-step t w T v k link inner ∙ rw (at, D-delay t w T top 0 film v k (link .1)) refl
+-- what it is made of stays within what a film can have
+pub less-in-range : (t : Tree) → TreeWithin t → (sums : List ℕ) → HoldsSums sums → (c n less : ℕ) → Link (t .n) c
+    → (l r : List ℕ) → l ≡ tab (lowerCurve t (sumsIn sums) c) n → r ≡ tab (λ k. getD l k 0 - less) n → InRange r
+less-in-range t w sums held c n less link l r is e k q =
+    let h : k < n = rw (e, length-tab) at q in
+    let at : getD l k 0 ≡ lowerCurve t (sumsIn sums) c k = rw is (getD-tab (lowerCurve t (sumsIn sums) c) n k h) in
+    let made : getD r k 0 ≡ getD l k 0 - less = rw e (getD-tab (λ k. getD l k 0 - less) n k h) in
+    omega (arith, at, made, lower-top t w (sumsIn sums) (lastIn sums) 0 (film-of sums held) c k link, held .fits)
 
-  -- in the parent's row itself
-  pub near-own : tab (raised (tab (λ k. getD l k 0 - t .memory (t .parent v)) n) T (leastDelay t v) 0) n ≡ tab (lowerCurve t T v) n
-  unfolding raised
-  near-own =
-      tab-cong _ _ n (λ k h.
-      omega (arith, from-parent k h, getD-tab (λ k. getD l k 0 - t .memory (t .parent v)) n k h))
+module _ (t : Tree) (w : TreeWithin t) (sums : List ℕ) (v : ℕ) (link : Link (t .n) v) (inner : t .parent v ≢ 0) (n : ℕ) (l : List ℕ)
+    (above : l ≡ tab (lowerCurve t (sumsIn sums) (t .parent v)) n) where
+  module _ (set : ℕ) (is : (i : ℕ) → has set i ≡ leafAt t v i) where
+    -- slot by slot
+    from-parent : (k : ℕ) → k < n
+        → lowerCurve t (sumsIn sums) v k ≡ max (mostPlayed t (sumsIn sums) set k) (getD l k 0 - t .memory (t .parent v))
+    from-parent k h =
+        let at : getD l k 0 ≡ lowerCurve t (sumsIn sums) (t .parent v) k =
+        rw above (getD-tab (lowerCurve t (sumsIn sums) (t .parent v)) n k h) in
+        lower-step t w (sumsIn sums) v k link inner ∙ rw (at, D-of-set t w v (link .1) set is (sumsIn sums) k)
 
-  -- in a row of its own
-  pub near-other : tab (λ k. max (getD (tab (λ k. T (k - leastDelay t v)) n) k 0) (getD l k 0 - t .memory (t .parent v))) n ≡ tab (lowerCurve t T v) n
-  near-other = tab-cong _ _ n (λ k h. omega (arith, from-parent k h, getD-tab (λ k. T (k - leastDelay t v)) n k h))
+    -- in the parent's row itself
+    pub near-own : raisedByAll t sums set 0 (tab (λ k. getD l k 0 - t .memory (t .parent v)) n) ≡ tab (lowerCurve t (sumsIn sums) v) n
+    unfolding raisedByAll
+    near-own =
+        rw length-tab
+        (tab-cong _ _ n (λ k h. omega (arith, from-parent k h, getD-tab (λ k. getD l k 0 - t .memory (t .parent v)) n k h)))
+
+    -- in a row of its own
+    pub near-other : raisedRow l (t .memory (t .parent v)) (raisedByAll t sums set 0 (tab (λ _. 0) n))
+        ≡ tab (lowerCurve t (sumsIn sums) v) n
+    unfolding raisedByAll
+    near-other =
+        rw (length-tab, length-tab)
+        (tab-cong _ _ n (λ k h.
+        omega (
+          arith,
+          from-parent k h,
+          getD-tab (λ _. 0) n k h,
+          getD-tab (λ k. max (getD (tab (λ _. 0) n) k 0) (mostPlayed t (sumsIn sums) set k - 0)) n k h,
+        )))
 
 -- ---- a leaf's lower curve from its parent's
 

@@ -4,14 +4,15 @@ use mathlib.Core.List.{List, [], _∷_}
 use mathlib.Core.Path.{_≡_, refl}
 use Prim.Native.Nat.{ℕ, _+_, _-_}
 use lib.ListN.{length, getD}
-use Rattle.base.specs.Range.{some, fold, leastOver}
+use Rattle.base.specs.Range.{some, first, fold, leastOver}
+use Rattle.base.specs.Set.{has}
 use Rattle.base.specs.Table.{tab}
 use Rattle.job.specs.Tree.{Tree, link, child, hasChild, leaf, meets, below}
 use Rattle.smoothing.specs.Tree.{put, unlessRoot, turnUp, turnDown, passUp, passDown, close, «open»}
 use Rattle.smoothing.specs.Plan.{lower, upper}
 use Rattle.curves.specs.Curves.{leafBelow, D, lowerIn, lowerCurve, roomIn, room, leastUp, upperCurve, low, high, problem, lazyIn, lazySchedule}
 use Rattle.job.specs.Sums.{sumsIn, lastIn}
-use Rattle.curves.specs.Rows.{leastDelay}
+use Rattle.curves.specs.Rows.{leastDelay, earlier, earliestOf, raisedBy, loweredBy}
 
 -- a tree from the parents, delays and memories of its nodes, the root's first
 abbrev treeWith : List ℕ → List ℕ → List ℕ → Tree
@@ -118,6 +119,24 @@ two-up-lower = refl
 least-delays : leastDelay (Q 1 4 0 6) 1 ∷ leastDelay (Q 1 4 0 6) 2 ∷ leastDelay (Q 1 4 0 6) 3 ∷ [] ≡ 0 ∷ 0 ∷ 1 ∷ []
 unfolding leastDelay leafBelow some leastOver link child hasChild leaf meets below
 least-delays = refl
+
+-- the earliest of leaves 2 and 3, the set 2^2 + 2^3, where leaf 2 or leaf 3 starts a slot later, or neither
+earliest-leaves : earliestOf (0 ∷ 0 ∷ 1 ∷ 0 ∷ []) 12 ∷ earliestOf (0 ∷ 0 ∷ 0 ∷ 1 ∷ []) 12 ∷ earliestOf (0 ∷ 0 ∷ 0 ∷ 0 ∷ []) 12 ∷ []
+    ≡ 3 ∷ 2 ∷ 2 ∷ []
+unfolding some fold first has earlier
+earliest-leaves = refl
+
+-- leaf 3's lower row: what it plays itself, then what leaf 2 plays less the 4 of node 1
+leaf-by-leaf :
+    raisedBy (Q 1 4 0 6) (0 ∷ 4 ∷ 14 ∷ 15 ∷ []) 2 4 (raisedBy (Q 1 4 0 6) (0 ∷ 4 ∷ 14 ∷ 15 ∷ []) 3 0 (0 ∷ 0 ∷ 0 ∷ 0 ∷ 0 ∷ []))
+    ≡ 0 ∷ 0 ∷ 10 ∷ 14 ∷ 15 ∷ []
+unfolding tab sumsIn raisedBy
+leaf-by-leaf = refl
+
+-- its upper row before the passes over the tree: T(M), then what it plays and its 6
+own-room : loweredBy (Q 1 4 0 6) (0 ∷ 4 ∷ 14 ∷ 15 ∷ []) 3 (15 ∷ 15 ∷ 15 ∷ 15 ∷ 15 ∷ []) ≡ 6 ∷ 6 ∷ 10 ∷ 15 ∷ 15 ∷ []
+unfolding tab sumsIn loweredBy
+own-room = refl
 
 -- ---- the lazy schedule
 

@@ -1,7 +1,7 @@
 pub mod LowerLaws
 pub mod UpperLaws
 pub mod CurveEq
-pub mod DelayLaws
+pub mod LeafLaws
 pub mod RowLaws
 pub mod LowerRowLaws
 pub mod MidLaws

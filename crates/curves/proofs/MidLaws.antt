@@ -12,7 +12,6 @@ use Rattle.base.proofs.BoolLaws.{lt-or-le}
 use Rattle.base.proofs.PartLaws.{part-before, part-inside, part-after}
 use Rattle.base.proofs.TableLaws.{length-tab, getD-tab}
 use Rattle.job.specs.Sums.{HoldsSums, sumsIn, lastIn}
-use Rattle.curves.specs.Rows.{raised, lowered}
 use Rattle.curves.proofs.RowLaws.{row-is}
 use Rattle.job.proofs.SumsLaws.{film-of}
 
@@ -146,10 +145,9 @@ module _ (l sums from x y : List ℕ) (held : HoldsSums sums) (delay less a n m�
     (same : (j : ℕ) → j < n → getD from j 0 ≡ getD sums j 0)
     (x-is : x ≡ tab (λ k. max (getD (take m₁ (drop a l)) k 0) (getD from k 0 - less)) (length (take m₁ (drop a l))))
     (y-is : y ≡ tab (λ k. max (getD (take m₂ (drop (a + n) (putMid a m₁ l x))) k 0) (lastIn sums - less)) (length (take m₂ (drop (a + n) (putMid a m₁ l x))))) where
-  pub raise-parts : putMid (a + n) m₂ (putMid a m₁ l x) y ≡ tab (raised l (sumsIn sums) delay less) (length l)
-  unfolding raised
+  pub raise-parts : putMid (a + n) m₂ (putMid a m₁ l x) y ≡ tab (λ k. max (getD l k 0) (sumsIn sums (k - delay) - less)) (length l)
   raise-parts =
-      row-is (raised l (sumsIn sums) delay less) _ (length l)
+      row-is _ _ (length l)
       (parts-length (λ o v. max o (v - less)) l sums from x y held delay a n m₁ m₂ start count first rest same x-is y-is)
       (λ k q. ⊎-elim
       (λ (c : k < a).
@@ -179,14 +177,14 @@ module _ (l sums from x y z : List ℕ) (held : HoldsSums sums) (delay plus a n 
   zero-long : length (putMid 0 m₀ l z) ≡ length l
   zero-long = mid-length l z 0 m₀ _ in-zero zero-is
 
-  pub lower-parts : putMid (a + n) m₂ (putMid a m₁ (putMid 0 m₀ l z) x) y ≡ tab (lowered l (sumsIn sums) delay plus) (length l)
-  unfolding lowered
+  pub lower-parts : putMid (a + n) m₂ (putMid a m₁ (putMid 0 m₀ l z) x) y
+      ≡ tab (λ k. min (getD l k 0) (sumsIn sums (k - delay) + plus)) (length l)
   lower-parts =
       let l₀ = putMid 0 m₀ l z in
       let start₀ : a ≡ min delay (length l₀) = rw zero-long start in
       let count₀ : n ≡ min (length l₀ - a) (length sums) = rw zero-long count in
       let rest₀ : m₂ ≡ length l₀ - (a + n) = rw zero-long rest in
-      row-is (lowered l (sumsIn sums) delay plus) _ (length l)
+      row-is _ _ (length l)
       (parts-length (λ o v. min o (v + plus)) l₀ sums from x y held delay a n m₁ m₂ start₀ count₀ first rest₀ same x-is y-is ∙ zero-long)
       (λ k q. ⊎-elim
       (λ (c : k < a).

@@ -1,21 +1,20 @@
 // The curves of document 01: one function fills a row with a node's lower curve, one the rows of all links with their upper curves.
 // Definitions to believe: specs/Curves; what the functions below work with: specs/Rows.
+ghost use mathlib.Core.Bool.{true};
 ghost use mathlib.Core.Path.{_≡_};
-ghost use Prim.Native.Nat.{ℕ, _+_, _-_, _*_, _≤_, _<_, max, min};
+ghost use Prim.Native.Nat.{_+_, _-_, _*_, _≤_, _<_, max, min};
 ghost use lib.ListN.{length, getD, set};
-ghost use Rattle.base.specs.Range.{fold};
-ghost use Rattle.base.specs.Set.{has, wordBits};
 ghost use Rattle.base.specs.Table.{tab};
-ghost use Rattle.job.specs.Limits.{mostSlots, longestDelay, greatestMemory};
+ghost use Rattle.job.specs.Limits.{mostNodes, mostSlots, greatestMemory};
 ghost use Rattle.job.specs.Tree.{TreeWithin};
 ghost use Rattle.job.specs.Read.{treeIn};
 ghost use Rattle.job.specs.Sums.{sumsIn, lastIn, HoldsSums, WithSums};
 ghost use Rattle.smoothing.specs.Tree.{Link};
 ghost use Rattle.rows.specs.Row.{InRange};
 ghost use Rattle.curves.specs.Curves.{lowerCurve, high};
-ghost use Rattle.curves.specs.Rows.{leastDelay, raisedBy, loweredBy, roof, highRows, upperRows, Kept, leafLower};
+ghost use Rattle.curves.specs.Rows.{leastDelay, earliestOf, begun, raisedBy, raisedByAll, TakenIn, loweredBy};
+ghost use Rattle.curves.specs.Rows.{roof, highRows, upperRows, Kept, leafLower};
 use job::Job;
-use job::Node;
 
 // Where T(k - delay) stands among T(0) to T(last).
 fn place(k: usize, delay: usize, last: usize) -> usize
@@ -37,6 +36,19 @@ fn shift(out: &mut [u64], sums: &[u64], delay: usize)
     }
 }
 
+// Each place takes that of `from` less `less`, where that is more; one comparison finds it.
+fn raise_by(out: &mut [u64], from: &[u64], less: u64)
+    requires { ⌜ (length (now from) ≡ length (now out)) × ((less ≤ mostNodes * greatestMemory) × InRange (now out)) ⌝ }
+    ensures { λ _. ⌜ now (out .exit)
+        ≡ tab (λ k. max (getD (now (out .entry)) k 0) (getD (now (from .entry)) k 0 - less)) (length (now (out .entry))) ⌝ }
+{
+    let mut k = 0;
+    while k < out.len() {
+        out[k] = base::max(out[k] + less, from[k]) - less;
+        k += 1;
+    }
+}
+
 // Each place takes `value`, where that is more.
 fn raise_to(out: &mut [u64], value: u64)
     ensures { λ _. ⌜ now (out .exit) ≡ tab (λ k. max (getD (now (out .entry)) k 0) value) (length (now (out .entry))) ⌝ }
@@ -48,61 +60,87 @@ fn raise_to(out: &mut [u64], value: u64)
     }
 }
 
-// Each slot k takes T(k - delay) less `less`, where that is more: nothing before the delay, then T frame by frame, then T(M).
-fn raise(out: &mut [u64], sums: &[u64], delay: usize, less: u64)
-    requires { ⌜ HoldsSums (now sums) ⌝ }
-    ensures { λ _. ⌜ now (out .exit) ≡ raisedBy (now (sums .entry)) delay less (now (out .entry)) ⌝ }
+// The work on leaf l in a lower row, at all its slots: nothing before its delay, then T frame by frame, then T(M), each less `less`,
+// where that is more. A fresh row counts as one of zeros, whatever stands in it. In any other there is nothing to be done where it has
+// taken in a delay, `taken`, that is no longer. Returns a delay that the row has taken in then.
+fn raise_by_leaf(
+    job: Job,
+    sums: &[u64],
+    l: usize,
+    less: u64,
+    taken: usize,
+    fresh: bool,
+    out: &mut [u64],
+) -> usize
+    requires { ⌜ HoldsSums (now sums) × ((l < mostNodes) × (less ≤ mostNodes * greatestMemory)) ⌝ }
+    requires { ⌜ (fresh ≡ true → less ≡ 0) × TakenIn (now sums) taken less (begun fresh (now out)) ⌝ }
+    ensures { λ _. ⌜ now (out .exit) ≡ raisedBy (treeIn job) (now (sums .entry)) l less (begun fresh (now (out .entry))) ⌝ }
+    ensures { λ r. ⌜ TakenIn (now (sums .entry)) r less (now (out .exit)) ⌝ }
 {
+    let delay = job.delay[l];
+    if fresh {
+        shift(out, sums, delay);
+        return delay;
+    }
+    if taken <= delay {
+        return taken;
+    }
     let end = out.len();
     let frames = sums.len();
     let last = base::minus(sums[frames - 1], less);
     let start = base::min_usize(delay, end);
     let count = base::min_usize(end - start, frames);
     let full = start + count;
-    rows::raise_row_less(&sums[0..count], less, &mut out[start..full]);
+    raise_by(&mut out[start..full], &sums[0..count], less);
     raise_to(&mut out[full..end], last);
+    delay
 }
 
-// The least of the numbers at the members of a set, where none is above the longest delay.
-fn shortest(set: u64, delay: &[usize; Job::MOST_NODES]) -> usize
-    ensures { λ r. ⌜ r ≡ fold (λ g i. min g (getD (now (delay .entry)) i 0)) longestDelay (has set) wordBits ⌝ }
+// Which member of a set has the least of these delays; the lowest of those that have it.
+fn earliest(set: u64, delay: &[usize; Job::MOST_NODES]) -> usize
+    ensures { λ r. ⌜ r ≡ earliestOf (now (delay .entry)) set ⌝ }
 {
-    let mut acc: usize = Node::LONGEST_DELAY;
+    let mut found = base::lowest(set);
     let mut rest = set;
     while rest != 0 {
-        acc = base::min_usize(acc, delay[base::lowest(rest)]);
+        let l = base::lowest(rest);
+        found = base::select_usize(delay[l] < delay[found], l, found);
         rest = base::without_lowest(rest);
     }
-    acc
+    found
 }
 
-// The least delay of the leaves at or below node a.
-fn least_delay(job: Job, a: usize) -> usize
-    requires { ⌜ TreeWithin (treeIn job) × (a < job .nodes) ⌝ }
-    ensures { λ r. ⌜ r ≡ leastDelay (treeIn job) a ⌝ }
+// The work on each leaf of a set in turn: the earliest first, so that there is nothing to be done on the rest, which follow from the
+// lowest on.
+fn raise_by_leaves(
+    job: Job,
+    sums: &[u64],
+    set: u64,
+    less: u64,
+    taken: usize,
+    fresh: bool,
+    out: &mut [u64],
+) -> usize
+    requires { ⌜ HoldsSums (now sums) × ((less ≤ mostNodes * greatestMemory) × (fresh ≡ true → (less ≡ 0) × (0 < set))) ⌝ }
+    requires { ⌜ TakenIn (now sums) taken less (begun fresh (now out)) ⌝ }
+    ensures { λ _. ⌜ now (out .exit) ≡ raisedByAll (treeIn job) (now (sums .entry)) set less (begun fresh (now (out .entry))) ⌝ }
+    ensures { λ r. ⌜ TakenIn (now (sums .entry)) r less (now (out .exit)) ⌝ }
 {
-    let set = job.leaves_below(a);
-    let delay = job.delay;
     if set == 0 {
-        return delay[a];
+        return taken;
     }
-    shortest(set, &delay)
+    let first = earliest(set, &job.delay);
+    let mut least = raise_by_leaf(job, sums, first, less, taken, fresh, out);
+    let mut rest = base::outside(set, base::with(0, first));
+    while rest != 0 {
+        least = raise_by_leaf(job, sums, base::lowest(rest), less, least, false, out);
+        rest = base::without_lowest(rest);
+    }
+    least
 }
 
-// The same as `raise`, at no cost where a delay no longer has been taken in with no more taken off.
-fn take_in(out: &mut [u64], sums: &[u64], delay: usize, less: u64, taken: usize) -> usize
-    requires { ⌜ HoldsSums (now sums) × ((k : ℕ) → k < length (now out) → sumsIn (now sums) (k - taken) - less ≤ getD (now out) k 0) ⌝ }
-    ensures { λ r. ⌜ (r ≡ min delay taken) × (now (out .exit) ≡ raisedBy (now (sums .entry)) delay less (now (out .entry))) ⌝ }
-{
-    if delay < taken {
-        raise(out, sums, delay, less);
-        return delay;
-    }
-    taken
-}
-
-// lower_i(0), lower_i(1), .. : what node i brings, and on the way up what each ancestor below the root brings, over all slots before
-// the next.
+// lower_i(0), lower_i(1), .. : what the leaves at or below node i bring, and on the way up, at each ancestor below the root, those that
+// were not below the one before. Each is finished before the next is begun.
 pub fn lower_row(job: Job, sums: &[u64], i: usize, out: &mut [u64])
     requires { ⌜ WithSums job (now sums) × Link (job .nodes) i ⌝ }
     ensures { λ _. ⌜ now (out .exit) ≡ tab (lowerCurve (treeIn job) (sumsIn (now (sums .entry))) i) (length (now (out .entry))) ⌝ }
@@ -111,12 +149,15 @@ pub fn lower_row(job: Job, sums: &[u64], i: usize, out: &mut [u64])
     let memory = job.memory;
     let mut a = i;
     let mut less: u64 = 0;
-    let mut taken = least_delay(job, i);
-    shift(out, sums, taken);
+    let mut seen = job.leaves_at(i);
+    let mut taken = raise_by_leaves(job, sums, seen, 0, out.len(), true, out);
     while parent[a] != 0 {
         a = parent[a];
         less += memory[a];
-        taken = take_in(out, sums, least_delay(job, a), less, taken);
+        let leaves = job.leaves_at(a);
+        let new = base::outside(leaves, seen);
+        taken = raise_by_leaves(job, sums, new, less, taken, false, out);
+        seen = leaves;
     }
 }
 
@@ -124,12 +165,12 @@ pub fn lower_row(job: Job, sums: &[u64], i: usize, out: &mut [u64])
 fn lower_by(out: &mut [u64], from: &[u64], plus: u64)
     requires { ⌜ (length (now from) ≡ length (now out)) × ((plus ≤ greatestMemory) × InRange (now from)) ⌝ }
     ensures { λ _. ⌜ now (out .exit)
-        ≡ tab (λ k. min (getD (now (out .entry)) k 0) (getD (now (from .entry)) k 0 + plus)) (length (now (out .entry))) ⌝ }
+        ≡ tab (λ j. min (getD (now (out .entry)) j 0) (getD (now (from .entry)) j 0 + plus)) (length (now (out .entry))) ⌝ }
 {
-    let mut k = 0;
-    while k < out.len() {
-        out[k] = base::min(out[k], from[k] + plus);
-        k += 1;
+    let mut j = 0;
+    while j < out.len() {
+        out[j] = base::min(out[j], from[j] + plus);
+        j += 1;
     }
 }
 
@@ -144,15 +185,17 @@ fn lower_all(out: &mut [u64], value: u64)
     }
 }
 
-// Each slot k takes T(k - delay) and `plus`, where that is less: T(0) before the delay, then T frame by frame, then T(M).
-fn lower_to(out: &mut [u64], sums: &[u64], delay: usize, plus: u64)
-    requires { ⌜ HoldsSums (now sums) × (plus ≤ greatestMemory) ⌝ }
-    ensures { λ _. ⌜ now (out .exit) ≡ loweredBy (now (sums .entry)) delay plus (now (out .entry)) ⌝ }
+// The work on leaf l in an upper row, at all its slots: T(0) before its delay, then T frame by frame, then T(M), each with its memory,
+// where that is less.
+fn lower_by_leaf(job: Job, sums: &[u64], l: usize, out: &mut [u64])
+    requires { ⌜ WithSums job (now sums) × Link (job .nodes) l ⌝ }
+    ensures { λ _. ⌜ now (out .exit) ≡ loweredBy (treeIn job) (now (sums .entry)) l (now (out .entry)) ⌝ }
 {
     let end = out.len();
     let frames = sums.len();
+    let plus = job.memory[l];
     let last = sums[frames - 1] + plus;
-    let start = base::min_usize(delay, end);
+    let start = base::min_usize(job.delay[l], end);
     let count = base::min_usize(end - start, frames);
     let full = start + count;
     lower_all(&mut out[0..start], plus);
@@ -178,7 +221,7 @@ fn roof_row(job: Job, sums: &[u64], v: usize, out: &mut [u64])
     let last = sums.len() - 1;
     rows::fill_row(sums[last], out);
     if base::member(job.leaves(), v) {
-        lower_to(out, sums, job.delay[v], job.memory[v]);
+        lower_by_leaf(job, sums, v, out);
     }
 }
 
@@ -250,7 +293,15 @@ pub fn keep_row(job: Job, sums: &[u64], c: usize, u: usize, kept: &mut [u64])
         return;
     }
     lessen(kept, job.memory[c]);
-    raise(kept, sums, least_delay(job, u), 0);
+    raise_by_leaves(job, sums, job.leaves_at(u), 0, kept.len(), false, kept);
+}
+
+// The least delay of the leaves at or below node a.
+fn least_delay(job: Job, a: usize) -> usize
+    requires { ⌜ TreeWithin (treeIn job) × (a < job .nodes) ⌝ }
+    ensures { λ r. ⌜ r ≡ leastDelay (treeIn job) a ⌝ }
+{
+    job.delay[earliest(job.leaves_at(a), &job.delay)]
 }
 
 // The highest node on the way up from node i, below the root.
@@ -291,8 +342,8 @@ pub fn lower_near(
         return c;
     }
     keep_row(job, sums, c, u, kept);
-    shift(out, sums, least_delay(job, v));
-    rows::raise_row_less(kept, job.memory[u], out);
+    raise_by_leaves(job, sums, job.leaves_at(v), 0, out.len(), true, out);
+    raise_by(out, kept, job.memory[u]);
     u
 }
 

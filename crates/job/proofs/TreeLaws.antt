@@ -10,9 +10,11 @@ use lib.Dec.{ltb, eqb}
 use lib.ListN.{getD}
 use borrow.Author.Tests.{lt-ltb, le-ltb, ltb-true, eq-eqb, eqb-true}
 use Rattle.base.specs.Range.{some}
-use Rattle.base.proofs.BoolLaws.{true-or-false, not-both, otherwise, and-left, and-right, and-no-right, or-right, or-cases, lt-or-le}
+use Rattle.base.specs.Set.{wordBits}
+use Rattle.base.proofs.BoolLaws.{true-or-false, not-both, otherwise, and-left, and-right, and-true}
+use Rattle.base.proofs.BoolLaws.{and-no-right, or-right, or-cases, lt-or-le}
 use Rattle.base.proofs.RangeLaws.{some-passes, which-passes}
-use Rattle.job.specs.Tree.{Tree, TreeWithin, link, child, hasChild, leaf, meets, below}
+use Rattle.job.specs.Tree.{Tree, TreeWithin, link, child, hasChild, leaf, meets, below, leafAt}
 
 -- ---- links
 
@@ -233,6 +235,15 @@ root-has-child t w =
     let l : 1 < t .n = omega (arith, w .nodes-from) in
     let e : t .parent 1 ≡ 0 = omega (arith, w .parents 1 (link-is (t .n) 1 (omega arith) l)) in
     rw e at (has-child t 1 (omega arith) l)
+
+-- the leaves at or below a node, as a word has them
+pub at-word : (t : Tree) → TreeWithin t → (a l : ℕ) → (leaf t l && (below t l a || (eqb l a && ltb l wordBits))) ≡ leafAt t a l
+unfolding leafAt
+at-word t w a l =
+    ⊎-elim
+    (λ (e : leaf t l ≡ true). rw (lt-ltb l wordBits (omega (arith, leaf-in t l e, w .nodes-to)), and-true))
+    (λ (e : leaf t l ≡ false). rw e)
+    (true-or-false (leaf t l))
 
 -- a tree of which only the shape is known, from the array of parents
 abbrev pub shape : ℕ → List ℕ → Tree

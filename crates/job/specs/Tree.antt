@@ -47,6 +47,10 @@ meets parent (suc steps) (suc i) a = eqb (parent (suc i)) a || meets parent step
 unfoldable pub below : Tree → ℕ → ℕ → Bool
 below t i a = ltb i (t .n) && meets (t .parent) i i a
 
+-- l is a leaf at or below node a
+unfoldable pub leafAt : Tree → ℕ → ℕ → Bool
+leafAt t a l = leaf t l && (below t l a || eqb l a)
+
 -- T(m): the sum of the first m frames, and T(M) for m above M. Document 01 has T(m) = 0 for m below 0. There is no whole number
 -- below 0 here: T(k - d) is written T (k - d) with the difference cut off at 0, which is right only because T(0) is 0 too.
 unfoldable pub T : JobData → ℕ → ℕ

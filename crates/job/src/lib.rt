@@ -1,6 +1,6 @@
 // The job of document 01: its bounds, its bytes, the reader, the running sums of its frames, and the sets of its nodes.
 // Definitions to believe: specs/Limits, Tree, Bytes, Refusal; what the types below hold: specs/Read.
-ghost use mathlib.Core.Bool.{_&&_, _||_};
+ghost use mathlib.Core.Bool.{_||_};
 ghost use mathlib.Core.Path.{_≡_};
 ghost use Prim.Native.Nat.{ℕ, _+_, _≤_, _<_};
 ghost use lib.Dec.{eqb};
@@ -10,7 +10,7 @@ ghost use Rattle.base.specs.Set.{has, wordBits};
 ghost use Rattle.job.specs.Limits as limit;
 ghost use Rattle.job.specs.Limits.{fewestNodes, mostNodes, mostFrames};
 ghost use Rattle.job.specs.Tree as tree;
-ghost use Rattle.job.specs.Tree.{child, leaf, below, planLength, TreeWithin};
+ghost use Rattle.job.specs.Tree.{child, leaf, below, leafAt, planLength, TreeWithin};
 ghost use Rattle.job.specs.Bytes.{recordPlace, nodeCount, frameCount, frameAt, treeOf};
 ghost use Rattle.job.specs.Refusal as refused;
 ghost use Rattle.job.specs.Refusal.{delayWrong, frameWrong, refusal};
@@ -270,12 +270,12 @@ impl Job {
         set
     }
 
-    // The leaves below node a.
-    pub fn leaves_below(self, a: usize) -> u64
+    // The leaves at or below node a.
+    pub fn leaves_at(self, a: usize) -> u64
         requires { ⌜ TreeWithin (treeIn self) ⌝ }
-        ensures { λ r. ⌜ ((k : ℕ) → has r k ≡ (leaf (treeIn self) k && below (treeIn self) k a)) ⌝ }
+        ensures { λ r. ⌜ ((k : ℕ) → has r k ≡ leafAt (treeIn self) a k) ⌝ }
     {
-        base::common(self.leaves(), self.below(a))
+        base::common(self.leaves(), base::with(self.below(a), a))
     }
 
     // H, the last slot.

@@ -1,9 +1,10 @@
-use mathlib.Core.Path.{_≡_, _∙_}
+use Rattle.base.proofs.BoolLaws.{not-both}
+use mathlib.Core.Path.{_≡_, refl, _∙_}
 use Prim.Native.Nat.{_-_}
 use lib.ListN.{length, getD}
-use Rattle.base.proofs.TableLaws.{length-tab}
-use Rattle.job.proofs.SumsLaws.{film-of}
-use Rattle.curves.proofs.AllRowsLaws.{near-own}
+use Rattle.job.specs.Read.{treeIn}
+use Rattle.curves.proofs.RowLaws.{none-taken}
+use Rattle.curves.proofs.AllRowsLaws.{less-in-range, near-own}
 use native.Mathlib.Omega.{arith}
 use borrow.Author.Needs.{needs}
 use Rattle.curves.proofs.keep_row.Statement.{statement}
@@ -48,11 +49,17 @@ element-copy-out-lessen c = search needs
 lessen-requires : tie.Need-lessen-requires
 lessen-requires c κs = search needs
 
-least-delay-requires : tie.Need-least-delay-requires
-least-delay-requires c κs = search needs
+leaves-at-requires : tie.Need-leaves-at-requires
+leaves-at-requires c κs = search needs
 
-raise-requires : tie.Need-raise-requires
-raise-requires c κs = search needs
+raise-by-leaves-requires : tie.Need-raise-by-leaves-requires
+raise-by-leaves-requires c κs =
+    let st = c .before .before .before .before .before .before .before .before .before .before .before .before .before in
+    let less = c .before .before .before .before .lessen in
+    let kept = st .pre .1 .1 in
+    let small = less-in-range _ (st .pre .0 .tree) _ (st .pre .0 .film) (st .args .c) _ _ (omega arith, kept .0) _ (less .last .0)
+    (kept .1 (omega arith)) (less .ensures) in
+    ((st .pre .0 .film, (omega arith, λ f. absurd (not-both f refl))), none-taken _ (st .pre .0 .film) 0 _ (less .last .0) refl small)
 
 same-length-3 : tie.Need-same-length-3
 same-length-3 c = search needs
@@ -64,10 +71,11 @@ returns-4 c =
     let parent : getD (a .t1 .parent) (a .u) 0 ≡ a .c = omega arith in
     let row = rw (← parent) at (st .pre .1 .1 .1 (omega arith)) in
     let less = rw (← parent) at (c .before .before .before .before .before .before .before .lessen .ensures) in
-    c .before .before .raise .ensures
-    ∙ rw (c .before .before .before .least-delay .ensures, less, length-tab)
-    (near-own _ (st .pre .0 .tree) _ _ (film-of (a .sums .now) (st .pre .0 .film)) (a .u) (st .pre .1 .0) (omega arith)
-    (length (a .kept .now)) (a .kept .now) row)
+    c .before .before .raise-by-leaves .ensures .0
+    ∙ rw less
+    (near-own (treeIn (a .t1)) (st .pre .0 .tree) (a .sums .now) (a .u) (st .pre .1 .0) (omega arith) (length (a .kept .now))
+    (a .kept .now) row
+    _ (c .before .before .before .before .leaves-at .ensures))
 
 pub keep-row-spec : {M : Type 1} → statement M
 keep-row-spec =
@@ -85,7 +93,7 @@ keep-row-spec =
     mul-lessen
     element-copy-out-lessen
     lessen-requires
-    least-delay-requires
-    raise-requires
+    leaves-at-requires
+    raise-by-leaves-requires
     same-length-3
     returns-4)

@@ -1,42 +1,44 @@
-use Rattle.curves.proofs.DelayLaws.{delay-none, delay-some}
+use mathlib.Core.Bool.{true}
+use mathlib.Core.Path.{_≡_}
+use Rattle.base.specs.Range.{first}
+use Rattle.base.specs.Set.{has, wordBits}
+use Rattle.base.proofs.SetLaws.{first-in}
 use Rattle.job.specs.Read.{treeIn}
-use mathlib.Core.Path.{_∙_}
+use Rattle.curves.proofs.LeafLaws.{member-lt, earliest-in, earliest-least, some-in, least-of-set}
 use native.Mathlib.Omega.{arith}
 use borrow.Author.Needs.{needs}
 use Rattle.curves.proofs.least_delay.Statement.{statement}
 use Rattle.curves.proofs.least_delay.Tie as tie
 
-leaves-below-requires : tie.Need-leaves-below-requires
-leaves-below-requires c κs = search needs
+leaves-at-requires : tie.Need-leaves-at-requires
+leaves-at-requires c κs = search needs
+
+earliest-requires : tie.Need-earliest-requires
+earliest-requires c κs = search needs
+
+-- the earliest is a member
+member : (c : tie.After-earliest) → has (c .before .before .before .leaves-at .result) (c .earliest .result) ≡ true
+member c =
+    let st = c .before .before .before .before in
+    let l = c .before .before .before .leaves-at in
+    let some = some-in (treeIn (st .args .t1)) (st .pre .0) (st .args .a) (st .pre .1) (l .result) (l .ensures) in
+    rw (c .earliest .ensures) (earliest-in _ (has (l .result)) _ (first-in (l .result) (omega arith) some) wordBits)
 
 mul-result : tie.Need-mul-result
-mul-result c = search needs
+mul-result c = omega (arith, member-lt _ _ (omega arith) (member c))
 
-array-read-result : tie.Need-array-read-result
-array-read-result c = search needs
+element-copy-out-result : tie.Need-element-copy-out-result
+element-copy-out-result c = member-lt _ _ (omega arith) (member c)
 
 returns : tie.Need-returns
 returns c =
-    let st = c .before .before .before in
-    let l = c .before .before .leaves-below in
-    delay-none (treeIn (st .args .job)) (st .pre .0) (l .result) (st .args .a) (l .ensures) (st .pre .1) (omega arith)
-
-shortest-requires : tie.Need-shortest-requires
-shortest-requires c κs = search needs
-
-returns-2 : tie.Need-returns-2
-returns-2 c =
     let st = c .before .before .before .before .before in
-    let l = c .before .before .before .before .leaves-below in
-    c .shortest .ensures ∙ delay-some (treeIn (st .args .job)) (st .pre .0) (l .result) (st .args .a) (l .ensures) (omega arith) (omega arith)
+    let l = c .before .before .before .before .leaves-at in
+    let set = l .result in
+    least-of-set (treeIn (st .args .t1)) (st .pre .0) (st .args .a) (st .pre .1) set (l .ensures) _ (member (c .before)) (λ i m.
+    rw (c .before .earliest .ensures)
+    (earliest-least (st .args .t1 .delay) (has set) (first (has set) wordBits) wordBits i (member-lt set i (omega arith) m) m))
 
 pub least-delay-spec : {M : Type 1} → statement M
 least-delay-spec =
-    tie.close
-    (tie.spec
-    leaves-below-requires
-    mul-result
-    array-read-result
-    returns
-    shortest-requires
-    returns-2)
+    tie.close (tie.spec leaves-at-requires earliest-requires mul-result element-copy-out-result returns)

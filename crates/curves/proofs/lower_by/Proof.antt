@@ -10,13 +10,13 @@ use Rattle.curves.proofs.lower_by.Statement.{statement}
 use Rattle.curves.proofs.lower_by.Tie as tie
 
 abbrev row : List ℕ → List ℕ → ℕ → ℕ → ℕ
-row out from plus k = min (getD out k 0) (getD from k 0 + plus)
+row out from plus j = min (getD out j 0) (getD from j 0 + plus)
 
 abbrev Inv-loop : tie.InvT-loop
-Inv-loop out₀ from plus k₀ out k = Filled (row out₀ from plus) k out₀ out
+Inv-loop out₀ from plus j₀ out j = Filled (row out₀ from plus) j out₀ out
 
 abbrev μ-loop : tie.MeasureT-loop
-μ-loop out₀ from plus k₀ out k = length out₀ - k
+μ-loop out₀ from plus j₀ out j = length out₀ - j
 
 loop-holds : tie.Need-loop-holds Inv-loop μ-loop
 loop-holds c = filled-none _ _
@@ -37,7 +37,7 @@ add-min : tie.Need-add-min Inv-loop μ-loop
 add-min c =
     let st = c .before .before .before .before .before .before in
     let l = c .before .before .before .loop in
-    omega (arith, st .pre .1 .0, st .pre .1 .1 (l .k) (omega (arith, l .inv .1 .0)))
+    omega (arith, st .pre .1 .0, st .pre .1 .1 (l .j) (omega (arith, l .inv .1 .0)))
 
 min-requires : tie.Need-min-requires Inv-loop μ-loop
 min-requires c κs = search needs
@@ -48,8 +48,8 @@ mul-out c = search needs
 slice-write-out : tie.Need-slice-write-out Inv-loop μ-loop
 slice-write-out c = search needs
 
-add-k : tie.Need-add-k Inv-loop μ-loop
-add-k c = search needs
+add-j : tie.Need-add-j Inv-loop μ-loop
+add-j c = search needs
 
 loop-less : tie.Need-loop-less Inv-loop μ-loop
 loop-less c = search needs
@@ -58,9 +58,9 @@ loop-again : tie.Need-loop-again Inv-loop μ-loop
 loop-again c =
     let l = c .before .before .before .before .loop in
     let a = c .before .before .before .before .before .before .before .args in
-    let e : c .min .result ≡ row (a .out .now) (a .from .now) (a .plus) (l .k) = c .min .ensures
-    ∙ rw (filled-ahead _ (l .k) _ (l .out) (l .inv) (omega arith)) in
-    rw e (filled-more (row (a .out .now) (a .from .now) (a .plus)) (l .k) _ (l .out) (l .inv) (omega arith))
+    let e : c .min .result ≡ row (a .out .now) (a .from .now) (a .plus) (l .j) = c .min .ensures
+    ∙ rw (filled-ahead _ (l .j) _ (l .out) (l .inv) (omega arith)) in
+    rw e (filled-more (row (a .out .now) (a .from .now) (a .plus)) (l .j) _ (l .out) (l .inv) (omega arith))
 
 same-length : tie.Need-same-length Inv-loop μ-loop
 same-length c = c .before .loop .inv .1 .0
@@ -83,7 +83,7 @@ lower-by-spec =
     min-requires
     mul-out
     slice-write-out
-    add-k
+    add-j
     loop-less
     loop-again
     same-length

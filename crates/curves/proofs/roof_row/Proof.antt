@@ -1,10 +1,7 @@
 use mathlib.Core.Path.{sym, _∙_}
 use Prim.Native.Nat.{_-_}
-use Rattle.base.proofs.TableLaws.{length-tab}
-use Rattle.job.proofs.TreeLaws.{link-is}
 use Rattle.job.specs.Sums.{lastIn}
 use Rattle.curves.proofs.AllRowsLaws.{roof-leaf, roof-inner}
-use native.Mathlib.Omega.{arith}
 use borrow.Author.Needs.{needs}
 use Rattle.curves.proofs.roof_row.Statement.{statement}
 use Rattle.curves.proofs.roof_row.Tie as tie
@@ -27,23 +24,8 @@ leaves-requires c κs = search needs
 member-requires : tie.Need-member-requires
 member-requires c κs = search needs
 
-mul-lower-to : tie.Need-mul-lower-to
-mul-lower-to c = search needs
-
-element-copy-out-lower-to : tie.Need-element-copy-out-lower-to
-element-copy-out-lower-to c = search needs
-
-mul-lower-to-2 : tie.Need-mul-lower-to-2
-mul-lower-to-2 c = search needs
-
-element-copy-out-lower-to-2 : tie.Need-element-copy-out-lower-to-2
-element-copy-out-lower-to-2 c = search needs
-
-lower-to-requires : tie.Need-lower-to-requires
-lower-to-requires c κs =
-    let st = c .before .before .before .before .before .before .before .before .before .before .before .before .before in
-    let small = st .pre .0 .tree .memories (st .args .v) (link-is _ (st .args .v) (st .pre .1 .0) (st .pre .1 .1)) in
-    (st .pre .0 .film, omega (arith, small))
+lower-by-leaf-requires : tie.Need-lower-by-leaf-requires
+lower-by-leaf-requires c κs = search needs
 
 same-length : tie.Need-same-length
 same-length c = search needs
@@ -51,11 +33,11 @@ same-length c = search needs
 returns : tie.Need-returns
 unfolding lastIn
 returns c =
-    let d = c .before .before .before .before .before .before in
+    let d = c .before .before .before .before in
     let st = d .before .before .before .before .before .before .before .before .before .before in
     let is-leaf = sym (d .before .before .leaves .ensures (st .args .v)) ∙ sym (d .before .member .ensures) ∙ d .if1 .taken in
     let fill-row = d .before .before .before .before .before .fill-row .ensures in
-    c .before .before .lower-to .ensures ∙ rw (fill-row, length-tab) (roof-leaf _ (st .pre .0 .tree) _ _ _ _ is-leaf)
+    c .before .before .lower-by-leaf .ensures ∙ rw fill-row (roof-leaf _ (st .pre .0 .tree) _ _ _ _ is-leaf)
 
 same-length-2 : tie.Need-same-length-2
 same-length-2 c = search needs
@@ -65,7 +47,7 @@ unfolding lastIn
 returns-2 c =
     let st = c .before .before .before .before .before .before .before .before .before .before in
     let none = sym (c .before .before .leaves .ensures (st .args .v)) ∙ sym (c .before .member .ensures) ∙ c .if1 .left in
-    c .before .before .before .before .before .fill-row .ensures ∙ roof-inner _ (st .pre .0 .tree) _ _ _ _ none
+    c .before .before .before .before .before .fill-row .ensures ∙ roof-inner _ _ _ _ _ none
 
 pub roof-row-spec : {M : Type 1} → statement M
 roof-row-spec =
@@ -77,11 +59,7 @@ roof-row-spec =
     fill-row-requires
     leaves-requires
     member-requires
-    mul-lower-to
-    element-copy-out-lower-to
-    mul-lower-to-2
-    element-copy-out-lower-to-2
-    lower-to-requires
+    lower-by-leaf-requires
     same-length
     returns
     same-length-2

@@ -1,6 +1,9 @@
+use Rattle.job.specs.Limits.{greatestMemory}
 use Rattle.job.specs.Sums.{lastIn}
+use Rattle.curves.specs.Rows.{loweredBy}
 use Rattle.curves.proofs.MidLaws.{lower-parts, part-get}
 use Rattle.job.proofs.SumsLaws.{place-fits}
+use Rattle.job.proofs.TreeLaws.{link-is}
 use lib.ListN.{length, take, drop, getD}
 use borrow.Rule.Slice.PartMut.{same-len-mid}
 use Rattle.base.proofs.TableLaws.{length-part}
@@ -9,8 +12,18 @@ use mathlib.Core.Path.{_≡_, refl, ap, sym, _∙_}
 use Prim.Native.Nat.{ℕ, _+_, _-_, _≤_, _<_, min}
 use native.Mathlib.Omega.{arith}
 use borrow.Author.Needs.{needs}
-use Rattle.curves.proofs.lower_to.Statement.{statement}
-use Rattle.curves.proofs.lower_to.Tie as tie
+use Rattle.curves.proofs.lower_by_leaf.Statement.{statement}
+use Rattle.curves.proofs.lower_by_leaf.Tie as tie
+
+-- the leaf's memory is within the limits
+memory-fits : (st : tie.Start) → getD (st .args .t1 .memory) (st .args .l) 0 ≤ greatestMemory
+memory-fits st = st .pre .0 .tree .memories (st .args .l) (link-is _ (st .args .l) (st .pre .1 .0) (st .pre .1 .1))
+
+mul-plus : tie.Need-mul-plus
+mul-plus c = search needs
+
+element-copy-out-plus : tie.Need-element-copy-out-plus
+element-copy-out-plus c = search needs
 
 sub-last : tie.Need-sub-last
 sub-last c = search needs
@@ -23,9 +36,13 @@ shared-slice-read-last c = search needs
 
 add-last : tie.Need-add-last
 unfolding lastIn
-add-last c =
-    let st = c .before .before .before in
-    omega (arith, st .pre .0 .fits, st .pre .1)
+add-last c = let st = c .before .before .before .before in omega (arith, st .pre .0 .film .fits, memory-fits st)
+
+mul-min-usize : tie.Need-mul-min-usize
+mul-min-usize c = search needs
+
+element-copy-out-min-usize : tie.Need-element-copy-out-min-usize
+element-copy-out-min-usize c = search needs
 
 min-usize-requires : tie.Need-min-usize-requires
 min-usize-requires c κs = search needs
@@ -74,7 +91,7 @@ part-lower-by-end-2 c = search needs
 
 lower-by-requires : tie.Need-lower-by-requires
 lower-by-requires c κs =
-    let st = c .before .before .before .before .before .before .before .before .before .before .before in
+    let st = c .before .before .before .before .before .before .before .before .before .before .before .before .before in
     let sums = st .args .sums .now in
     let n = c .before .before .before .before .before .before .min-usize2 in
     let s = c .before .before .before .before .before .before .before .min-usize in
@@ -85,10 +102,10 @@ lower-by-requires c κs =
           ∙ omega arith
           ∙ sym (length-part (s .result) (s .result + n .result) _ (omega arith) (inside _ _ _ _ _ long (s .ensures) (n .ensures))),
       (
-        st .pre .1,
+        memory-fits st,
         λ k q.
             let h : k < n .result - 0 = rw (length-part 0 (n .result) sums (omega arith) in-sums) at q in
-            rw (getD-take (n .result - 0) sums k 0 h) (place-fits sums (st .pre .0) k (omega arith)),
+            rw (getD-take (n .result - 0) sums k 0 h) (place-fits sums (st .pre .0 .film) k (omega arith)),
       ),
     )
   where
@@ -114,28 +131,36 @@ same-length : tie.Need-same-length
 same-length c = search needs
 
 returns : tie.Need-returns
-unfolding lastIn
+unfolding loweredBy lastIn
 returns c =
-    let st = c .before .before .before .before .before .before .before .before .before .before .before .before .before .before .before .before .before .before in
+    let st = c .before .before .before .before .before .before .before .before .before .before .before .before .before .before .before
+    .before .before .before .before .before in
     let a = st .args in
     let s = c .before .before .before .before .before .before .before .before .before .before .before .before .before
     .before .min-usize .result in
     let n = c .before .before .before .before .before .before .before .before .before .before .before .before .before .min-usize2 .result in
-    lower-parts (a .out .now) (a .sums .now) (take (n - 0) (drop 0 (a .sums .now))) _ _ _ (st .pre .0) (a .delay) (a .plus) s n (s - 0) (s + n - s) (length (a .out .now) - (s + n))
+    lower-parts (a .out .now) (a .sums .now) (take (n - 0) (drop 0 (a .sums .now))) _ _ _ (st .pre .0 .film)
+    (getD (a .t1 .delay) (a .l) 0) (getD (a .t1 .memory) (a .l) 0) s n (s - 0)
+    (s + n - s) (length (a .out .now) - (s + n))
     (c .before .before .before .before .before .before .before .before .before .before .before .before .before
-    .before .min-usize .ensures) (c .before .before .before .before .before .before .before .before .before .before .before
-    .before .before .min-usize2 .ensures) (omega arith) (omega arith) refl
+    .before .min-usize .ensures)
+    (c .before .before .before .before .before .before .before .before .before .before .before .before .before .min-usize2 .ensures)
+    (omega arith) (omega arith) refl
     (λ j h. part-get (a .sums .now) 0 (n - 0) j (omega arith) ∙ ap (λ (z : ℕ). getD (a .sums .now) z 0) (omega arith))
     (c .before .before .before .before .before .before .before .before .before .before .before .lower-all .ensures) (c .before .before .before .before .before .before .lower-by .ensures) (c .before .before .lower-all2 .ensures)
 
-pub lower-to-spec : {M : Type 1} → statement M
-lower-to-spec =
+pub lower-by-leaf-spec : {M : Type 1} → statement M
+lower-by-leaf-spec =
     tie.close
     (tie.spec
+    mul-plus
+    element-copy-out-plus
     sub-last
     mul-last
     shared-slice-read-last
     add-last
+    mul-min-usize
+    element-copy-out-min-usize
     min-usize-requires
     sub-min-usize
     min-usize-requires-2

@@ -36,6 +36,10 @@ pub and-no-right : (a : Bool) {b : Bool} → b ≡ false → (a && b) ≡ false
 and-no-right true h = h
 and-no-right false h = refl
 
+pub and-cong : (a : Bool) {b c : Bool} → (a ≡ true → b ≡ c) → (a && b) ≡ (a && c)
+and-cong true h = h refl
+and-cong false h = refl
+
 pub or-false : (a : Bool) → (a || false) ≡ a
 or-false true = refl
 or-false false = refl

@@ -1,5 +1,6 @@
 pub mod BoolLaws
 pub mod CollectLaws
+pub mod CountLaws
 mod Examples
 pub mod NumberLaws
 pub mod PartLaws

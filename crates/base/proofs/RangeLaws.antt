@@ -274,6 +274,11 @@ first-under p (suc n) =
     cond-both (some p n) (λ x. x ≤ suc n) _ _ (λ e. omega (arith, first-under p n))
     (λ e. cond-both (p n) (λ x. x ≤ suc n) _ _ (λ u. omega arith) (λ u. omega arith))
 
+pub leastOver-none : (p : ℕ → Bool) (f : ℕ → ℕ) (n : ℕ) → some p n ≡ false → leastOver p f n ≡ 0
+unfolding leastOver some
+leastOver-none p f zero h = refl
+leastOver-none p f (suc n) h = rw (or-no-right (some p n) (p n) h) (leastOver-none p f n (or-no-left (some p n) (p n) h))
+
 -- a number that is no greater than any of them is no greater than the least
 pub leastOver-above : (p : ℕ → Bool) (f : ℕ → ℕ) (n m : ℕ) → some p n ≡ true → ((i : ℕ) → i < n → p i ≡ true → m ≤ f i) → m ≤ leastOver p f n
 leastOver-above p f n m h each = let (i, l, u, q) = leastOver-attained p f n h in omega (arith, each i l u)

@@ -46,6 +46,10 @@ unfoldable pub leastOver : (ℕ → Bool) → (ℕ → ℕ) → ℕ → ℕ
 leastOver p f zero = 0
 leastOver p f (suc n) = cond (p n) (cond (some p n) (min (leastOver p f n) (f n)) (f n)) (leastOver p f n)
 
+-- the two least of two numbers kept and of f i: what a fold that looks for the least and the second least goes on with
+abbrev pub twoLeast : (ℕ → ℕ) → ℕ × ℕ → ℕ → ℕ × ℕ
+twoLeast f g i = (min (g .0) (f i), min (g .1) (max (g .0) (f i)))
+
 -- m is the least number with the property A
 abbrev pub IsLeast : (ℕ → Type 0) → ℕ → Type 0
 IsLeast A m = A m × ((k : ℕ) → A k → m ≤ k)

@@ -180,7 +180,8 @@ struct relay_rate_answer {
  * delay up to 4,096 serves with some memories, the number is 0, `delay` is the
  * least that serves with any, `memories` holds those of nodes 1 to n-1 in turn,
  * with which it serves, and `total` is their sum. No memories with which that
- * delay serves have a lower total, nor a lower one at any node with those below it.
+ * delay serves have a lower total; of all that have this total, these have the least
+ * at node 1, then at node 2, and so on, so that boxes near the root are small.
  *
  * The number is else the first refusal that applies, of 1 to 10 above and these,
  * and `memories` is as it was:

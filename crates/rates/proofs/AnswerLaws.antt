@@ -1,17 +1,20 @@
 -- From the work on an accepted job to the rate question's answer.
+use mathlib.Core.Bool.{true}
 use mathlib.Core.List.{List}
 use mathlib.Core.Path.{_≡_, refl, ap, sym, _∙_}
 use mathlib.Core.Logic.{inr, ⊎-elim}
-use Prim.Native.Nat.{ℕ, suc, _-_, _≤_}
+use Prim.Native.Nat.{ℕ, zero, suc, _-_, _≤_}
+use native.Mathlib.Omega.{arith}
 use lib.ListN.{length}
 use borrow.Author.Tests.{eq-eqb, ne-eqb}
 use Rattle.base.specs.Table.{tab}
 use Rattle.job.specs.Limits.{longestDelay}
-use Rattle.job.specs.Tree.{Tree, T}
+use Rattle.job.specs.Tree.{Tree, link, T}
 use Rattle.job.specs.Bytes.{jobOf}
 use Rattle.job.specs.Refusal.{badLent, refusal}
 use Rattle.job.specs.Read.{Accepted}
 use Rattle.job.specs.declared.Job.{Job}
+use Rattle.job.proofs.TreeLaws.{link-in}
 use Rattle.smoothing.specs.Tree.{Link}
 use Rattle.job.specs.Sums.{sumsOf}
 use Rattle.job.proofs.SumsLaws.{sums-of}
@@ -22,7 +25,7 @@ use Rattle.rates.specs.declared.Sizing.the-variants.{Refused, Sized}
 use Rattle.rates.specs.Rates.{total, startDelay, memory}
 use Rattle.rates.specs.Answer.{earlyRefusal, Least, Sizes}
 use Rattle.rates.specs.Work.{Worked}
-use Rattle.rates.proofs.LeastLaws.{delay-least, none-serves, memory-serves, total-least, from-least, memory-fits, within-rates}
+use Rattle.rates.proofs.LeastLaws.{delay-least, none-serves, memory-serves, total-least, least-in-order, memory-fits, within-rates}
 use Rattle.rates.proofs.WorkLaws.{memory-at}
 
 -- ---- refusals 1 to 11
@@ -55,10 +58,33 @@ least-answer s job acc w l fits is-delay is =
       serves = serves;
       least-delay = delay-least j (acc .within) w fits is-delay;
       least-total = total-least j (acc .within) w fits is-delay b is-memory;
-      least-from = from-least j (acc .within) w fits is-delay b is-memory;
+      least-in-order = least-in-order j (acc .within) w fits is-delay b is-memory;
       put-back = within-rates (putBack s w b) j w b (answered-bytes s w b (acc .none) fits small)
           (answered-read s w b (acc .none) fits small) serves;
     }
+
+-- and it settles the answer: the delay, and the memory of each node
+pub least-settled : (s : List ℕ) (w w′ : ℕ) (b b′ : ℕ → ℕ) → Least s w b → Least s w′ b′
+    → (w ≡ w′) × ((i : ℕ) → link (jobOf s .tree .n) i ≡ true → b i ≡ b′ i)
+least-settled s w w′ b b′ one other = (same, λ i h. up-to i i (omega arith) h)
+  where
+    same : w ≡ w′
+    same = omega (arith, one .least-delay w′ b′ (other .serves), other .least-delay w b (one .serves))
+
+    too : Least s w b′
+    too = rw same other
+
+    totals : total (jobOf s .tree) b ≡ total (jobOf s .tree) b′
+    totals = omega (arith, one .least-total b′ (too .serves), too .least-total b (one .serves))
+
+    up-to : (m i : ℕ) → i ≤ m → link (jobOf s .tree .n) i ≡ true → b i ≡ b′ i
+    up-to zero i l h = absurd (omega (arith, link-in (jobOf s .tree .n) i h))
+    up-to (suc m) i l h =
+        omega (
+          arith,
+          one .least-in-order b′ (too .serves) (sym totals) i h (λ k g r. sym (up-to m k (omega arith) g)),
+          too .least-in-order b (one .serves) totals i h (λ k g r. up-to m k (omega arith) g),
+        )
 
 -- ---- the same job, by its struct and by its bytes
 

@@ -1,23 +1,20 @@
--- Demand 3 of the rate question: the delay is the least that serves, the memories are the least with which it serves, and put back they
--- are answered with a plan within the rates.
+-- Demand 3 of the rate question: the delay is the least that serves, the memories have the least total with which it serves and are the
+-- least in order of those that have it, and put back they are answered with a plan within the rates.
 use mathlib.Core.Bool.{true, false, cond}
 use mathlib.Core.List.{List}
 use mathlib.Core.Path.{_≡_, refl, ap, sym, fun-ext, _∙_}
 use mathlib.Core.Logic.{⊎-elim}
 use Prim.Native.Nat.{ℕ, zero, suc, _+_, _-_, _≤_, _<_}
 use native.Mathlib.Omega.{arith}
-use lib.Dec.{eqb}
 use lib.ListN.{length, getD}
-use Rattle.base.proofs.BoolLaws.{true-or-false, or-cases, cond-both}
-use Rattle.base.proofs.RangeLaws.{sumOver-monotone}
+use Rattle.base.proofs.BoolLaws.{true-or-false}
 use Rattle.base.proofs.TableLaws.{getD-tab}
-use borrow.Author.Tests.{eqb-true}
 use Rattle.job.specs.Limits.{longestDelay, greatestMemory}
-use Rattle.job.specs.Tree.{JobData, JobWithin, link, leaf, below, T, H, planLength}
+use Rattle.job.specs.Tree.{JobData, JobWithin, link, leaf, T, H, planLength}
 use Rattle.job.specs.Bytes.{perNode, jobOf}
 use Rattle.job.specs.Refusal.{refusal}
 use Rattle.job.proofs.SlotLaws.{T-top, T-fits, total-in-memory}
-use Rattle.job.proofs.TreeLaws.{link-in, below-in}
+use Rattle.job.proofs.TreeLaws.{link-is, link-in}
 use Rattle.smoothing.specs.Tree.{Link}
 use Rattle.smoothing.specs.Tree as theory-tree
 use Rattle.smoothing.specs.Row.{peak}
@@ -25,6 +22,8 @@ use Rattle.smoothing.specs.Rates as theory
 use Rattle.smoothing.specs.Rates.{RateQuestion, WellFormedRates, LeastMemories}
 use Rattle.smoothing.proofs.LazyLaws.{lazy-least}
 use Rattle.smoothing.proofs.NeedLaws.{need-least}
+use Rattle.smoothing.proofs.SumLaws.{total-same}
+use Rattle.smoothing.proofs.ChoiceLaws.{chosen-under}
 use Rattle.smoothing.proofs.LeastMemoryLaws.{serves-fast, memory-least}
 use Rattle.job.proofs.SumsLaws.{job-film}
 use Rattle.planner.specs.Rules.{Best}
@@ -33,10 +32,10 @@ use Rattle.planner.specs.declared.Answer.the-variants.{Refused, Planned}
 use Rattle.planner.specs.Answer.{Answers, numberOf, planIn}
 use Rattle.planner.proofs.AnswerLaws.{early-none}
 use Rattle.writing.specs.PutBack.{answeredJob, memoriesIn}
-use Rattle.rates.specs.Rates.{Serves, atOrBelow, total, totalFrom, leastRate, startDelay, memory}
+use Rattle.rates.specs.Rates.{Serves, total, leastRate, startDelay, memory}
 use Rattle.pacing.specs.Pace.{inTime}
 use Rattle.pacing.proofs.DelayLaws as pacing
-use Rattle.rates.proofs.TheoryLaws.{question, good, in-time-fast, fast-in-time, memory-is, total-is, totalFrom-is}
+use Rattle.rates.proofs.TheoryLaws.{question, good, in-time-fast, fast-in-time, memory-is, total-is}
 use Rattle.rates.proofs.ServeLaws.{serves-to, serves-from}
 
 -- ---- memories that agree on the links
@@ -71,12 +70,6 @@ answered-same j w b b′ same =
 
 serves-same : (j : JobData) (w : ℕ) (b b′ : ℕ → ℕ) → ((i : ℕ) → Link (j .tree .n) i → b i ≡ b′ i) → Serves j w b′ → Serves j w b
 serves-same j w b b′ same served = rw (answered-same j w b b′ same) served
-
--- no memory is more than the need
-memory-under : (Q : RateQuestion) (w i : ℕ) → theory.memory Q w i ≤ theory.need Q w i
-unfolding theory.memory
-memory-under Q w i = cond-both (theory-tree.leaf (Q .n) (Q .parent) i) (λ x. x ≤ theory.need Q w i) _ _ (λ e. omega arith)
-    (λ e. omega arith)
 
 -- ---- the delay and the memories of an accepted job
 
@@ -113,42 +106,30 @@ module _ (j : JobData) (within : JobWithin j) where
 
     module _ (b : ℕ → ℕ) (is-memory : (i : ℕ) → Link (j .tree .n) i → b i ≡ memory (j .tree) (j .M) (T j) w i) where
       is-theory : (i : ℕ) → Link (j .tree .n) i → b i ≡ theory.memory Q w i
-      is-theory i h = is-memory i h ∙ memory-is (j .tree) (j .M) (T j) w i (h .1)
+      is-theory i h = is-memory i h ∙ ap (λ (f : ℕ → ℕ). f i) (memory-is (j .tree) (j .M) (T j) w)
 
       pub memory-serves : Serves j w b
       memory-serves = serves-same j w b (theory.memory Q w) is-theory (serves-from j within w (theory.memory Q w) (least .serves))
 
-      pub total-least : (b′ : ℕ → ℕ) → Serves j w b′ → total (j .tree) b ≤ total (j .tree) b′
-      unfolding total
-      total-least b′ served =
-          omega (
-            arith,
-            sumOver-monotone (link (j .tree .n)) b (theory.memory Q w) (j .tree .n)
-                (λ i l e. omega (arith, is-theory i (link-in (j .tree .n) i e))),
-            least .least-total b′ (serves-to j within w b′ served),
-            total-is (j .tree) (theory.memory Q w),
-            total-is (j .tree) b′,
-          )
+      -- the total, by the theory's word
+      total-theory : total (j .tree) b ≡ theory-tree.total (j .tree .n) (theory.memory Q w)
+      total-theory = total-is (j .tree) b ∙ total-same (j .tree .n) b (theory.memory Q w) is-theory
 
-      pub from-least : (b′ : ℕ → ℕ) → Serves j w b′ → (i : ℕ) → link (j .tree .n) i ≡ true
-          → totalFrom (j .tree) b i ≤ totalFrom (j .tree) b′ i
-      unfolding totalFrom
-      from-least b′ served i h =
+      pub total-least : (b′ : ℕ → ℕ) → Serves j w b′ → total (j .tree) b ≤ total (j .tree) b′
+      total-least b′ served =
+          omega (arith, total-theory, least .least-total b′ (serves-to j within w b′ served), total-is (j .tree) b′)
+
+      pub least-in-order : (b′ : ℕ → ℕ) → Serves j w b′ → total (j .tree) b′ ≡ total (j .tree) b → (i : ℕ) → link (j .tree .n) i ≡ true
+          → ((k : ℕ) → link (j .tree .n) k ≡ true → k < i → b′ k ≡ b k) → b i ≤ b′ i
+      least-in-order b′ served same i h before =
+          let l = link-in (j .tree .n) i h in
+          let totals = sym (total-is (j .tree) b′) ∙ same ∙ total-theory in
           omega (
             arith,
-            sumOver-monotone (atOrBelow (j .tree) i) b (theory.memory Q w) (j .tree .n)
-                (λ x l e. omega (arith, is-theory x (positive x e, l))),
-            least .least-from b′ (serves-to j within w b′ served) i (link-in (j .tree .n) i h),
-            totalFrom-is (j .tree) (theory.memory Q w) i,
-            totalFrom-is (j .tree) b′ i,
+            is-theory i l,
+            least .least-in-order b′ (serves-to j within w b′ served) totals i l
+                (λ k g m. before k (link-is (j .tree .n) k (g .0) (g .1)) m ∙ is-theory k g),
           )
-        where
-          positive : (x : ℕ) → atOrBelow (j .tree) i x ≡ true → 0 < x
-          positive x e =
-              ⊎-elim
-              (λ (q : eqb x i ≡ true). omega (arith, eqb-true x i q, link-in (j .tree .n) i h))
-              (λ (q : below (j .tree) x i ≡ true). below-in (j .tree) x i q .0)
-              (or-cases (eqb x i) (below (j .tree) x i) e)
 
       -- no memory is past its bound: no need is more than the film
       need-fits : (i : ℕ) → theory.need Q w i ≤ T j (j .M)
@@ -163,7 +144,13 @@ module _ (j : JobData) (within : JobWithin j) where
       pub memory-fits : (i : ℕ) → link (j .tree .n) i ≡ true → b i ≤ greatestMemory
       memory-fits i e =
           let h = link-in (j .tree .n) i e in
-          omega (arith, is-theory i h, memory-under Q w i, need-fits i, T-fits j within (j .M), total-in-memory)
+          omega (
+            arith,
+            is-theory i h,
+            chosen-under (j .tree .n) (j .tree .parent) (theory.need Q w) (fair .ordered) (T j (j .M)) (λ v g. need-fits v) i h,
+            T-fits j within (j .M),
+            total-in-memory,
+          )
 
 -- ---- put back
 

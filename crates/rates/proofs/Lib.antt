@@ -4,6 +4,7 @@ pub mod LeastLaws
 pub mod NeedLaws
 pub mod WalkLaws
 pub mod FloorLaws
+pub mod LinkLaws
 pub mod WorkLaws
 pub mod AnswerLaws
 pub mod StarredLaws

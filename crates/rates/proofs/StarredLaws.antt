@@ -10,7 +10,7 @@ use lib.Dec.{eqb, ltb}
 use lib.ListN.{length, getD}
 use borrow.Author.Tests.{ltb-true, ltb-false, eqb-true}
 use Rattle.base.specs.Number.{number}
-use Rattle.base.specs.Range.{sum, some, sumOver, fold, leastOver, greatest}
+use Rattle.base.specs.Range.{sum, some, howMany, sumOver, fold, leastOver, greatest}
 use Rattle.base.specs.Table.{tab, rowsOf}
 use Rattle.base.proofs.BoolLaws.{true-or-false, and-left, and-right, or-cases, otherwise, not-both, lt-or-le}
 use Rattle.base.proofs.RangeLaws.{none-passes, which-passes, first-is}
@@ -24,6 +24,7 @@ use Rattle.job.proofs.RefusalLaws.{accepted-within}
 use Rattle.job.proofs.SlotLaws.{leaf-link}
 use Rattle.job.proofs.TreeLaws.{leaf-in}
 use Rattle.smoothing.specs.Tree.{put, unlessRoot, turnUp, turnDown, passUp, passDown, close, «open»}
+use Rattle.smoothing.specs.Choice.{secondNeed, handed, askOf, ask, chosen}
 use Rattle.smoothing.specs.Row.{peak, ceilDiv, leastPeak, lazyBefore, lazy}
 use Rattle.smoothing.specs.Plan.{lower, upper, linkPeak, lazyPlan, plan}
 use Rattle.curves.specs.Curves.{D, lowerIn, lowerCurve, roomIn, room, leastUp, upperCurve, leafBelow, low, high}
@@ -338,7 +339,7 @@ all-pass : passAll table ≡ true
 unfolding spell number sum some fold link child hasChild leaf mark version nodeCount frameCount parentAt delayAt memoryAt rateAt frameAt
     wantedLength perNode refusal T H greatestDelay meets below leastOver D leafBelow lowerIn lowerCurve roomIn room leastUp upperCurve
     starving greatest tab rowsOf put unlessRoot turnUp turnDown passUp passDown close «open» ceilDiv leastPeak lazyBefore lazy lower upper
-    linkPeak lazyPlan plan low high peak leastRate inTime floorRate sumsIn ahead mostAhead memoryBy sumOver total same sameRows peaksIn
+    linkPeak lazyPlan plan low high peak leastRate inTime floorRate sumsIn ahead mostAhead howMany secondNeed handed askOf ask chosen sumOver total same sameRows peaksIn
     memoriesOf onTime refusedSo plannedSo sizedSo memoryTest rateTest passes passAll
 all-pass = refl
 

@@ -14,13 +14,14 @@ use Rattle.job.proofs.TreeLaws.{link-is, link-in}
 use Rattle.smoothing.specs.Tree as theory
 use Rattle.smoothing.specs.Tree.{metUp, within}
 use Rattle.smoothing.specs.Row.{greatestExcess, lazy}
+use Rattle.smoothing.specs.Choice.{chosen}
 use Rattle.smoothing.specs.Rates as theory-rates
 use Rattle.smoothing.specs.Rates.{RateQuestion, WellFormedRates, FastEnough}
 use Rattle.smoothing.proofs.RowLaws.{greatestExcess-above, greatestExcess-least}
 use Rattle.curves.specs.Curves.{lazySchedule}
 use Rattle.job.specs.Sums.{Film}
 use Rattle.curves.proofs.CurveEq.{lazy-is}
-use Rattle.rates.specs.Rates.{atOrBelow, total, totalFrom, floorRate, leastRate, D, need, memory}
+use Rattle.rates.specs.Rates.{atOrBelow, total, floorRate, leastRate, D, need, memory}
 use Rattle.pacing.specs.Pace.{inTime}
 use Rattle.pacing.proofs.DelayLaws.{in-time-each, each-in-time}
 
@@ -54,7 +55,7 @@ module _ (t : Tree) where
   unfolding link
   link-positive v h = rw (lt-ltb v (t .n) h) (and-true (ltb 0 v))
 
-  child-same : (v c : ℕ) → c < t .n → theory.child (t .parent) v c ≡ child t c v
+  pub child-same : (v c : ℕ) → c < t .n → theory.child (t .parent) v c ≡ child t c v
   unfolding child
   child-same v c h = rw (link-positive c h) refl
 
@@ -62,15 +63,14 @@ module _ (t : Tree) where
   unfolding leaf hasChild
   leaf-same v h = rw (lt-ltb v (t .n) h, some-cong (theory.child (t .parent) v) (λ c. child t c v) (t .n) (child-same v)) refl
 
+  pub ordered : TreeWithin t → (v : ℕ) → theory.Link (t .n) v → t .parent v < v
+  ordered tree v h = tree .parents v (link-is (t .n) v (h .0) (h .1))
+
   -- ---- totals
 
   pub total-is : (b : ℕ → ℕ) → total t b ≡ theory.total (t .n) b
   unfolding total theory.total
   total-is b = sumOver-same (link (t .n)) (λ v. ltb 0 v) b (t .n) link-positive
-
-  pub totalFrom-is : (b : ℕ → ℕ) (i : ℕ) → totalFrom t b i ≡ theory.totalFrom (t .n) (t .parent) b i
-  unfolding totalFrom theory.totalFrom
-  totalFrom-is b i = sumOver-same (atOrBelow t i) (within (t .parent) i) b (t .n) (λ x h. sym (within-is i x h))
 
   module _ (M : ℕ) (T : ℕ → ℕ) where
     abbrev pub question : RateQuestion
@@ -100,22 +100,14 @@ module _ (t : Tree) where
               (λ k h. omega (arith, schedule-is w i k h, greatestExcess-above (M + w) s d k h)),
         )
 
-    pub memory-is : (w i : ℕ) → i < t .n → memory t M T w i ≡ theory-rates.memory question w i
-    unfolding memory theory-rates.memory
-    memory-is w i h =
-        let e : need t M T w ≡ theory-rates.need question w = fun-ext (need-is w) in
-        rw (
-          e,
-          leaf-same i h,
-          leastOver-same (λ c. child t c i) (theory.child (t .parent) i) (theory-rates.need question w) (t .n)
-              (λ c l. sym (child-same i c l)),
-        ) refl
+    pub memory-is : (w : ℕ) → memory t M T w ≡ theory-rates.memory question w
+    memory-is w = ap (chosen (t .n) (t .parent)) (fun-ext (need-is w))
 
     module _ (tree : TreeWithin t) (film : Film T (T M)) where
       pub good : WellFormedRates question
       good =
           record {
-            ordered = λ v h. tree .parents v (link-is (t .n) v (h .0) (h .1));
+            ordered = ordered tree;
             starts = film .starts;
             grows = λ m l. film .grows m (suc m) (omega arith);
           }

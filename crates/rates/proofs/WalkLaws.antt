@@ -1,37 +1,40 @@
--- What walks over sets of nodes find: floor rates, the least rate of all, the least need of a node's children.
-use mathlib.Core.Bool.{Bool, true, _&&_, _||_}
+-- What walks over sets of nodes find: floor rates, the least rate of all, how many children a node has and what it hands on to them.
+use mathlib.Core.Bool.{Bool, true, false, cond, _&&_, _||_}
 use mathlib.Core.List.{List}
-use mathlib.Core.Path.{_≡_, refl, sym, _∙_}
+use mathlib.Core.Path.{_≡_, refl, ap, sym, _∙_}
 use mathlib.Core.Logic.{⊎-elim}
-use Prim.Native.Nat.{ℕ, zero, suc, _-_, _^_, _≤_, _<_, min}
+use Prim.Native.Nat.{ℕ, _+_, _≤_, _<_, max, min}
 use native.Mathlib.Omega.{arith}
+use native.Mathlib.Decide.{ℕ-discrete}
 use lib.Dec.{eqb, ltb}
 use lib.ListN.{getD}
 use borrow.Author.Tests.{lt-ltb, eq-eqb, eqb-true}
-use Rattle.base.specs.Range.{some, first, fold, leastOver}
+use Rattle.base.specs.Range.{howMany, fold, twoLeast}
 use Rattle.base.specs.Set.{has, wordBits}
-use Rattle.base.proofs.BoolLaws.{and-left, or-right, or-cases, iff-same, otherwise, cond-both}
-use Rattle.base.proofs.RangeLaws.{some-passes, all-fail, fold-cong, fold-skip, fold-least}
-use Rattle.base.proofs.SetLaws.{has-none, first-in}
-use Rattle.job.specs.Limits.{greatestRate, greatestTotal}
-use Rattle.job.specs.Tree.{Tree, TreeWithin, link, child, hasChild, leaf, below}
+use Rattle.base.proofs.BoolLaws.{and-left, or-right, or-cases, iff-same, otherwise}
+use Rattle.base.proofs.CountLaws.{howMany-fold}
+use Rattle.base.proofs.RangeLaws.{some-passes, fold-cong, fold-skip, fold-least}
+use Rattle.base.proofs.TableLaws.{getD-tab}
+use Rattle.job.specs.Limits.{mostNodes, greatestRate, greatestTotal}
+use Rattle.job.specs.Tree.{Tree, TreeWithin, link, child, below}
 use Rattle.job.proofs.TreeLaws.{link-is, link-in, child-in, below-in, below-root}
+use Rattle.smoothing.specs.Tree as theory
+use Rattle.smoothing.specs.Tree.{childCount}
+use Rattle.smoothing.proofs.ChoiceLaws.{second-walk, handed-more, ask-root, ask-next, chosen-under}
 use Rattle.rates.specs.Rates.{atOrBelow, floorRate, leastRate}
-use Rattle.rates.specs.Work.{Needs, memoryBy}
+use Rattle.rates.specs.Work.{onLinks, NeedsWithin, handedBy, askBy, memoryBy}
+use Rattle.rates.proofs.TheoryLaws.{child-same, ordered}
 
 -- a walk over a set of nodes looks at the nodes alone
-walk-nodes : (step : ℕ → ℕ → ℕ) (z n set : ℕ) (p : ℕ → Bool) → n ≤ wordBits → ((k : ℕ) → has set k ≡ p k) → ((k : ℕ) → p k ≡ true → k < n)
+walk-nodes : {A : Type 0} (step : A → ℕ → A) (z : A) (n set : ℕ) (p : ℕ → Bool) → n ≤ wordBits → ((k : ℕ) → has set k ≡ p k) → ((k : ℕ) → p k ≡ true → k < n)
     → fold step z (has set) wordBits ≡ fold step z p n
 walk-nodes step z n set p h is within =
     fold-cong step z (has set) p wordBits (λ k q. is k)
     ∙ fold-skip step z p n wordBits h (λ k l q. otherwise (p k) (λ e. omega (arith, within k e)))
 
--- a walk that takes the lesser never rises
-pub walk-under : (f : ℕ → ℕ) (z n : ℕ) (p : ℕ → Bool) → fold (λ g i. min g (f i)) z p n ≤ z
-unfolding fold
-walk-under f z zero p = omega arith
-walk-under f z (suc n) p =
-    cond-both (p n) (λ x. x ≤ z) _ _ (λ e. omega (arith, walk-under f z n p)) (λ e. walk-under f z n p)
+-- what node k hands on of what it is asked for, by a list of needs
+abbrev pub onward : Tree → List ℕ → ℕ → ℕ
+onward t needs k = handedBy t needs k (askBy t needs k)
 
 module _ (t : Tree) (tree : TreeWithin t) where
   -- ---- rates
@@ -83,36 +86,45 @@ module _ (t : Tree) (tree : TreeWithin t) where
       (some-passes (link (t .n)) (t .n) 1 one (link-is (t .n) 1 (omega arith) one))
       (λ k l e. tree .rates k e)
 
-  -- ---- needs
+  -- ---- children
 
-  module _ (needs : List ℕ) (i set : ℕ) (is-link : link (t .n) i ≡ true) (is : (k : ℕ) → has set k ≡ child t k i) where
-    -- no children: a leaf
-    pub memory-leaf : set ≡ 0 → getD needs i 0 ≡ memoryBy t needs i
-    unfolding memoryBy leaf hasChild
-    memory-leaf z =
-        rw (
-          lt-ltb i (t .n) (link-in (t .n) i is-link .1),
-          all-fail (λ c. child t c i) (t .n) (λ c l. sym (is c) ∙ rw z (has-none c)),
-        ) refl
+  module _ (i set : ℕ) (is : (k : ℕ) → has set k ≡ child t k i) where
+    children-walk : {A : Type 0} (step : A → ℕ → A) (z : A) → fold step z (has set) wordBits ≡ fold step z (theory.child (t .parent) i) (t .n)
+    children-walk step z =
+        walk-nodes step z (t .n) set (λ c. child t c i) (tree .nodes-to) is (λ k e. child-in t k i e .1)
+        ∙ fold-cong step z (λ c. child t c i) (theory.child (t .parent) i) (t .n) (λ c l. sym (child-same t i c l))
 
-    -- else the walk finds the least need of the children
-    pub memory-inner : set < 2 ^ 64 → 0 < set → Needs t needs
-        → getD needs i 0 - fold (λ g c. min g (getD needs c 0)) (getD needs i 0) (has set) wordBits ≡ memoryBy t needs i
-    unfolding memoryBy leaf hasChild
-    memory-inner fits p right =
-        let c = first (has set) wordBits in
-        let kid : child t c i ≡ true = sym (is c) ∙ first-in set fits p in
-        let any : some (λ c. child t c i) (t .n) ≡ true = some-passes (λ c. child t c i) (t .n) c (child-in t c i kid .1) kid in
-        let least : fold (λ g c. min g (getD needs c 0)) (getD needs i 0) (has set) wordBits ≡ leastOver (λ c. child t c i)
-        (λ c. getD needs c 0) (t .n) =
-        walk-nodes (λ g c. min g (getD needs c 0)) (getD needs i 0) (t .n) set (λ c. child t c i) (tree .nodes-to) is
-        (λ k e. child-in t k i e .1)
-        ∙ fold-least (λ c. child t c i) (λ c. getD needs c 0) (getD needs i 0) (t .n) any
-        (λ k l e. right .falling k i (link-in (t .n) i is-link .0) e) in
-        rw (least, lt-ltb i (t .n) (link-in (t .n) i is-link .1), any) refl
+    pub children-count : howMany (has set) wordBits ≡ childCount (t .n) (t .parent) i
+    children-count =
+        howMany-fold (has set) wordBits ∙ children-walk (λ g c. g + 1) 0 ∙ sym (howMany-fold (theory.child (t .parent) i) (t .n))
 
-  -- a memory is no more than the need
-  pub memory-small : (needs : List ℕ) → Needs t needs → (i : ℕ) → link (t .n) i ≡ true → memoryBy t needs i ≤ greatestTotal
-  unfolding memoryBy
-  memory-small needs right i h =
-      cond-both (leaf t i) (λ x. x ≤ greatestTotal) _ _ (λ e. right .small i h) (λ e. omega (arith, right .small i h))
+    -- of two or more children the walk finds what is handed on
+    pub handed-walk : (needs : List ℕ) (x : ℕ) → 1 < childCount (t .n) (t .parent) i
+        → fold (twoLeast (λ c. getD needs c 0)) (x, x) (has set) wordBits .1 ≡ handedBy t needs i x
+    handed-walk needs x many =
+        ap (λ (g : ℕ × ℕ). g .1) (children-walk (twoLeast (λ c. getD needs c 0)) (x, x))
+        ∙ second-walk (t .n) (t .parent) (λ c. getD needs c 0) i x many
+        ∙ sym (handed-more (t .n) (t .parent) (λ c. getD needs c 0) i x many)
+
+  -- what the next node is asked for, from what the nodes before it hand on
+  pub asked-next : (needs : List ℕ) (i : ℕ) → link (t .n) i ≡ true
+      → max (getD needs i 0) (getD (onLinks i (onward t needs) 0) (t .parent i) 0) ≡ askBy t needs i
+  asked-next needs i h = go (ℕ-discrete (t .parent i) 0)
+    where
+      place : getD (onLinks i (onward t needs) 0) (t .parent i) 0 ≡ cond (link i (t .parent i)) (onward t needs (t .parent i)) 0
+      place = getD-tab (λ k. cond (link i k) (onward t needs k) 0) mostNodes (t .parent i)
+          (omega (arith, tree .parents i h, link-in (t .n) i h, tree .nodes-to))
+
+      go : Dec (t .parent i ≡ 0) → max (getD needs i 0) (getD (onLinks i (onward t needs) 0) (t .parent i) 0) ≡ askBy t needs i
+      go (yes e) =
+          let none : link i (t .parent i) ≡ false = otherwise (link i (t .parent i)) (λ q. omega (arith, link-in i (t .parent i) q, e)) in
+          omega (arith, rw none at place, ask-root (t .n) (t .parent) (λ c. getD needs c 0) i e)
+      go (no ne) =
+          let some : link i (t .parent i) ≡ true = link-is i (t .parent i) (omega arith) (tree .parents i h) in
+          omega (arith, rw some at place, ask-next (t .n) (t .parent) (λ c. getD needs c 0) (ordered t tree) i (link-in (t .n) i h) ne)
+
+  -- no memory is more than a film
+  pub memory-small : (needs : List ℕ) → NeedsWithin t needs → (i : ℕ) → link (t .n) i ≡ true → memoryBy t needs i ≤ greatestTotal
+  memory-small needs small i h =
+      chosen-under (t .n) (t .parent) (λ c. getD needs c 0) (ordered t tree) greatestTotal
+      (λ v g. small v (link-is (t .n) v (g .0) (g .1))) i (link-in (t .n) i h)

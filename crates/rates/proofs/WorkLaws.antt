@@ -6,20 +6,20 @@ use Prim.Native.Nat.{ℕ, suc, _+_, _-_, _<_}
 use native.Mathlib.Omega.{arith}
 use lib.ListN.{length, getD}
 use Rattle.base.specs.Table.{tab}
-use Rattle.base.proofs.RangeLaws.{sumOver-monotone, leastOver-cong}
+use Rattle.base.proofs.RangeLaws.{sumOver-monotone}
 use Rattle.base.proofs.TableLaws.{getD-tab, tab-cong}
 use Rattle.job.specs.Limits.{mostNodes}
-use Rattle.job.specs.Tree.{Tree, TreeWithin, link, child}
-use Rattle.job.proofs.TreeLaws.{link-is, link-in, child-in}
-use Rattle.smoothing.proofs.NeedLaws.{need-parent}
+use Rattle.job.specs.Tree.{Tree, TreeWithin, link}
+use Rattle.job.proofs.TreeLaws.{link-is, link-in}
+use Rattle.smoothing.proofs.ChoiceLaws.{chosen-same}
 use Rattle.job.specs.Sums.{Film, sumsIn, HoldsSums}
 use Rattle.job.proofs.SumsLaws.{film-to, sum-fits}
 use Rattle.writing.specs.PutBack.{memoriesIn}
 use Rattle.rates.specs.Rates.{total, floorRate, leastRate, need, memory}
 use Rattle.pacing.specs.Pace.{needOf, needsAt}
 use Rattle.pacing.proofs.LeadLaws.{most-under}
-use Rattle.rates.specs.Work.{floorsOf, Needs, memoryBy}
-use Rattle.rates.proofs.TheoryLaws.{question, good, need-is}
+use Rattle.rates.specs.Work.{floorsOf, NeedsWithin, memoryBy}
+use Rattle.rates.proofs.TheoryLaws.{ordered}
 use Rattle.rates.proofs.NeedLaws.{need-ahead}
 
 -- the need of each node at its place, from the sums T(0) to T(M)
@@ -52,42 +52,22 @@ module _ (t : Tree) (tree : TreeWithin t) (sums : List ℕ) (holds : HoldsSums s
       ∙ ap (needOf sums) own
       ∙ rw ends (sym (need-ahead t M (sumsIn sums) tree film w i))
 
-  pub needs-right : Needs t (needsOf t sums)
-  needs-right =
-      record {
-        small = λ i h.
-            omega (
-              arith,
-              need-at 0 i h,
-              need-ahead t M (sumsIn sums) tree film 0 i,
-              most-under (sumsIn sums) (λ m. film .grows m (suc m) (omega arith)) (floorRate t i) M,
-              sum-fits sums holds M,
-            );
-        falling = λ c i p e.
-            let (a, b, q) = child-in t c i e in
-            let lower = tree .parents c (link-is (t .n) c a b) in
-            let fair = good t M (sumsIn sums) tree film in
-            let up = need-parent (question t M (sumsIn sums)) fair 0 c (a, b) (omega (arith, q)) in
-            omega (
-              arith,
-              need-at 0 c (link-is (t .n) c a b),
-              need-at 0 i (link-is (t .n) i p (omega arith)),
-              need-is t M (sumsIn sums) 0 c,
-              need-is t M (sumsIn sums) 0 i,
-              rw q at up,
-            );
-      }
+  pub needs-right : NeedsWithin t (needsOf t sums)
+  needs-right i h =
+      omega (
+        arith,
+        need-at 0 i h,
+        need-ahead t M (sumsIn sums) tree film 0 i,
+        most-under (sumsIn sums) (λ m. film .grows m (suc m) (omega arith)) (floorRate t i) M,
+        sum-fits sums holds M,
+      )
 
   -- ---- memories
 
   pub memory-by : (w i : ℕ) → link (t .n) i ≡ true → memoryBy t (needsOf t sums) i ≡ memory t M (sumsIn sums) w i
-  unfolding memoryBy memory
   memory-by w i h =
-      rw (
-        need-at w i h,
-        leastOver-cong (λ c. child t c i) (λ c. getD (needsOf t sums) c 0) (need t M (sumsIn sums) w) (t .n)
-            (λ c l e. let (a, b, q) = child-in t c i e in need-at w c (link-is (t .n) c a b)),
-      ) refl
+      chosen-same (t .n) (t .parent) (λ k. getD (needsOf t sums) k 0) (need t M (sumsIn sums) w)
+      (ordered t tree) (λ v g. need-at w v (link-is (t .n) v (g .0) (g .1))) i (link-in (t .n) i h)
 
   pub memories-by : (w : ℕ) → tab (λ i. memoryBy t (needsOf t sums) (suc i)) (t .n - 1) ≡ tab (λ i. memory t M (sumsIn sums) w (suc i))
       (t .n - 1)

@@ -3,7 +3,7 @@ use mathlib.Core.Bool.{true, cond}
 use mathlib.Core.List.{List}
 use mathlib.Core.Path.{_≡_}
 use mathlib.Core.Logic.{_⊎_}
-use Prim.Native.Nat.{ℕ, suc, _-_, _≤_}
+use Prim.Native.Nat.{ℕ, suc, _-_, _≤_, _<_}
 use lib.Dec.{eqb}
 use lib.ListN.{length, getD}
 use Rattle.base.specs.Table.{tab}
@@ -16,7 +16,7 @@ use Rattle.planner.specs.Answer.{Answers}
 use Rattle.planner.specs.declared.Answer.{Answer}
 use Rattle.pacing.specs.Pace.{noDelay}
 use Rattle.writing.specs.PutBack.{putBack, memoriesIn}
-use Rattle.rates.specs.Rates.{Serves, total, totalFrom, startDelay, memory}
+use Rattle.rates.specs.Rates.{Serves, total, startDelay, memory}
 use Rattle.rates.specs.declared.Sizing.{Sizing}
 use Rattle.rates.specs.declared.Sizing.the-variants.{Refused, Sized}
 
@@ -37,15 +37,16 @@ totalOf (Sized w all) = all
 unfoldable pub earlyRefusal : List ℕ → ℕ → ℕ
 earlyRefusal s lent = cond (eqb (refusal s) 0) (cond (eqb lent (jobOf s .tree .n - 1)) 0 badLent) (refusal s)
 
--- demand 3 of the delay w and the memories b for the job s: w serves with b; it is the least delay that serves with any memories; of all
--- memories with which w serves none have a lower total, nor a lower total of any node and those below it; and put back, the memory
--- question, lent outputs of the right length, answers 0 and no peak passes its link's rate
+-- demand 3 of the delay w and the memories b for the job s, and the choice of b: w serves with b; it is the least delay that serves with any
+-- memories; of all memories with which w serves none have a lower total; of those with the same total b has the least at node 1, then at
+-- node 2, and so on, so that any that are the same at all nodes before i have no less at i; and put back, the memory question, lent outputs
+-- of the right length, answers 0 and no peak passes its link's rate
 pub record Least (s : List ℕ) (w : ℕ) (b : ℕ → ℕ) : Type 0 where
   pub serves : Serves (jobOf s) w b
   pub least-delay : (w′ : ℕ) (b′ : ℕ → ℕ) → Serves (jobOf s) w′ b′ → w ≤ w′
   pub least-total : (b′ : ℕ → ℕ) → Serves (jobOf s) w b′ → total (jobOf s .tree) b ≤ total (jobOf s .tree) b′
-  pub least-from : (b′ : ℕ → ℕ) → Serves (jobOf s) w b′ → (i : ℕ) → link (jobOf s .tree .n) i ≡ true
-      → totalFrom (jobOf s .tree) b i ≤ totalFrom (jobOf s .tree) b′ i
+  pub least-in-order : (b′ : ℕ → ℕ) → Serves (jobOf s) w b′ → total (jobOf s .tree) b′ ≡ total (jobOf s .tree) b
+      → (i : ℕ) → link (jobOf s .tree .n) i ≡ true → ((k : ℕ) → link (jobOf s .tree .n) k ≡ true → k < i → b′ k ≡ b k) → b i ≤ b′ i
   pub put-back : (answer : Answer) (plan₀ plan₁ peaks₀ peaks₁ : List ℕ)
       → length plan₀ ≡ planLength (jobOf (putBack s w b)) → length peaks₀ ≡ jobOf s .tree .n - 1
       → Answers answer (putBack s w b) plan₀ plan₁ peaks₀ peaks₁

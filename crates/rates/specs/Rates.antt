@@ -1,12 +1,14 @@
--- Document 01, 'Rate question' and the words of demand 3: floor rate, w, need, memories, and a delay that serves with a set of memories.
+-- Document 01, 'Rate question' and the words of demand 3, with the choice of memories of document 02, L4: floor rate, w, need, memories, and
+-- a delay that serves with a set of memories.
 -- A set of memories gives each node 1 to n-1 any whole number.
-use mathlib.Core.Bool.{Bool, true, cond, _||_}
+use mathlib.Core.Bool.{Bool, true, _||_}
 use mathlib.Core.Path.{_≡_}
 use Prim.Native.Nat.{ℕ, _+_, _-_, _≤_}
 use lib.Dec.{eqb}
 use Rattle.base.specs.Range.{sumOver, leastOver}
-use Rattle.job.specs.Tree.{Tree, JobData, link, child, leaf, below, H}
+use Rattle.job.specs.Tree.{Tree, JobData, link, below, H}
 use Rattle.smoothing.specs.Row.{peak, greatestExcess}
+use Rattle.smoothing.specs.Choice.{chosen}
 use Rattle.curves.specs.Curves.{lazySchedule}
 use Rattle.planner.specs.Rules.{Keeps}
 use Rattle.pacing.specs.Pace.{delayAt}
@@ -21,18 +23,15 @@ Serves j w b =
     let answered = answeredJob j w b in
     (S : ℕ → ℕ → ℕ) × (Keeps answered S × ((i : ℕ) → link (j .tree .n) i ≡ true → peak (H answered) (S i) ≤ j .tree .rate i))
 
--- node x is node i or below it
-abbrev pub atOrBelow : Tree → ℕ → ℕ → Bool
-atOrBelow t i x = eqb x i || below t x i
-
--- the total of a set of memories, and the total of a node and those below it
+-- the total of a set of memories
 unfoldable pub total : Tree → (ℕ → ℕ) → ℕ
 total t b = sumOver (link (t .n)) b (t .n)
 
-unfoldable pub totalFrom : Tree → (ℕ → ℕ) → ℕ → ℕ
-totalFrom t b i = sumOver (atOrBelow t i) b (t .n)
-
 -- ---- the delay and the memories answered
+
+-- node x is node i or below it
+abbrev pub atOrBelow : Tree → ℕ → ℕ → Bool
+atOrBelow t i x = eqb x i || below t x i
 
 -- the floor rate of a node: the least rate among its own link and those below it
 unfoldable pub floorRate : Tree → ℕ → ℕ
@@ -56,6 +55,7 @@ module _ (t : Tree) (M : ℕ) (T : ℕ → ℕ) where
   unfoldable pub need : ℕ → ℕ → ℕ
   need w i = greatestExcess (M + w) (lazySchedule (D w) (T M) (M + w) (floorRate t i)) (D w)
 
-  -- a leaf's memory is its need; an inner node's is its need less the least need of its children
-  unfoldable pub memory : ℕ → ℕ → ℕ
-  memory w i = cond (leaf t i) (need w i) (need w i - leastOver (λ c. child t c i) (need w) (t .n))
+  -- the memories: of all sets with which w serves and that have the least total, the one with the least memory at node 1, then at node 2,
+  -- and so on by number; as smoothing/specs/Choice has it, from the needs and node by node
+  abbrev pub memory : ℕ → ℕ → ℕ
+  memory w = chosen (t .n) (t .parent) (need w)

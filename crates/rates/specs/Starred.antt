@@ -85,8 +85,8 @@ table =
     }
     -- the same with memories 4, 0, 5: 12
     ∷ record { memory = true; job = withMemories 1 4 0 5; values = 12 ∷ 0 ∷ 0 ∷ []; filled = [] }
-    -- rates 5, 10, 4: w 2, memories 6, 0, 6, total 12
-    ∷ record { memory = false; job = withRates 5 10 4 4 10 1; values = 0 ∷ 2 ∷ 12 ∷ []; filled = (6 ∷ 0 ∷ 6 ∷ []) ∷ [] }
+    -- rates 5, 10, 4: w 2, memories 0, 6, 6 (by document 02, L4), total 12
+    ∷ record { memory = false; job = withRates 5 10 4 4 10 1; values = 0 ∷ 2 ∷ 12 ∷ []; filled = (0 ∷ 6 ∷ 6 ∷ []) ∷ [] }
     -- a root and one leaf, one frame of 4,097, rate 1: w 4,096, total 4,096
     ∷ record { memory = false; job = oneLeaf 4097 1; values = 0 ∷ 4096 ∷ 4096 ∷ []; filled = (4096 ∷ []) ∷ [] }
     -- the same with a frame of 4,098: 13

@@ -1,10 +1,11 @@
 // The rate question: from rates to the least start delay and the least memories.
-// Definitions to believe: specs/Rates (floor rate, w, need, memories, what serves), specs/Answer (what the function below gives).
+// Definitions to believe: specs/Rates (floor rate, w, need, memories, what serves), Choice of smoothing (the memories from the needs),
+// specs/Answer (what the function below gives).
 ghost use mathlib.Core.Bool.{true};
 ghost use mathlib.Core.Path.{_≡_};
 ghost use Prim.Native.Nat.{suc, _+_, _-_, _≤_, _<_, min};
 ghost use lib.ListN.{length, getD};
-ghost use Rattle.base.specs.Range.{fold};
+ghost use Rattle.base.specs.Range.{fold, twoLeast};
 ghost use Rattle.base.specs.Set.{has, wordBits};
 ghost use Rattle.base.specs.Table.{tab};
 ghost use Rattle.job.specs.Tree.{TreeWithin, link};
@@ -12,7 +13,7 @@ ghost use Rattle.job.specs.Read.{treeIn, Accepted};
 ghost use Rattle.job.specs.Sums.{sumsOf, WithSums};
 ghost use Rattle.rates.specs.Rates.{total, floorRate, leastRate};
 ghost use Rattle.rates.specs.Answer.{Sizes};
-ghost use Rattle.rates.specs.Work.{floorsOf, Needs, memoryBy, Worked};
+ghost use Rattle.rates.specs.Work.{floorsOf, NeedsWithin, handedBy, memoryBy, Worked};
 use job::Job;
 use job::Node;
 
@@ -68,30 +69,56 @@ fn floor_rates(job: Job, least: u64) -> [u64; Job::MOST_NODES]
     floors
 }
 
-// A node's memory from the needs.
-fn memory_of(job: Job, needs: &[u64; Job::MOST_NODES], i: usize) -> u64
-    requires { ⌜ TreeWithin (treeIn job) × ((link (job .nodes) i ≡ true) × Needs (treeIn job) (now needs)) ⌝ }
-    ensures { λ r. ⌜ r ≡ memoryBy (treeIn job) (now (needs .entry)) i ⌝ }
+// The second least of a start, which counts twice, and the numbers at the members of a set.
+fn second_least_of(set: u64, start: u64, numbers: &[u64; Job::MOST_NODES]) -> u64
+    ensures { λ r. ⌜ r ≡ fold (twoLeast (λ i. getD (now (numbers .entry)) i 0)) (start, start) (has set) wordBits .1 ⌝ }
 {
-    let need = needs[i];
-    let children = job.children(i);
-    if children == 0 {
-        return need;
+    let mut least = start;
+    let mut second = start;
+    let mut rest = set;
+    while rest != 0 {
+        let next = numbers[base::lowest(rest)];
+        second = base::min(second, base::max(least, next));
+        least = base::min(least, next);
+        rest = base::without_lowest(rest);
     }
-    need - least_of(children, need, needs)
+    second
 }
 
-// All memories from the needs, and their total.
+// What a node hands on to its children of what it is asked for.
+fn handed_on(job: Job, needs: &[u64; Job::MOST_NODES], i: usize, asked: u64) -> u64
+    requires { ⌜ TreeWithin (treeIn job) ⌝ }
+    ensures { λ r. ⌜ r ≡ handedBy (treeIn job) (now (needs .entry)) i asked ⌝ }
+{
+    let children = job.children(i);
+    let count = base::count(children);
+    if count == 0 {
+        return 0;
+    }
+    if count == 1 {
+        return asked;
+    }
+    second_least_of(children, asked, needs)
+}
+
+// All memories from the needs, and their total: from the root down, as what a node is asked for hangs on what its parent hands on.
 fn fill(job: Job, needs: &[u64; Job::MOST_NODES], memories: &mut [u64]) -> u64
-    requires { ⌜ TreeWithin (treeIn job) × (Needs (treeIn job) (now needs) × (length (now memories) ≡ job .nodes - 1)) ⌝ }
+    requires { ⌜ TreeWithin (treeIn job) × (NeedsWithin (treeIn job) (now needs) × (length (now memories) ≡ job .nodes - 1)) ⌝ }
     ensures { λ r. ⌜ now (memories .exit) ≡ tab (λ i. memoryBy (treeIn job) (now (needs .entry)) (suc i)) (job .nodes - 1) ⌝ }
     ensures { λ r. ⌜ r ≡ total (treeIn job) (memoryBy (treeIn job) (now (needs .entry))) ⌝ }
 {
     let links = job.nodes - 1;
+    let parent = job.parent;
+    let mut handed = [0u64; Job::MOST_NODES];
     let mut all = 0;
     let mut i = 0;
     while i < links {
-        let memory = memory_of(job, needs, i + 1);
+        let node = i + 1;
+        let above = parent[node];
+        let asked = base::max(needs[node], handed[above]);
+        let onward = handed_on(job, needs, node, asked);
+        handed[node] = onward;
+        let memory = asked - onward;
         memories[i] = memory;
         all += memory;
         i += 1;

@@ -1,11 +1,12 @@
--- Laws of children, leaves, and the nodes at and below a node.
+-- Laws of children and leaves, of going from the leaves up and from the root down, and of the nodes at and below a node.
 use mathlib.Core.Path.{_≡_, refl, sym, ap, _∙_}
+use mathlib.Core.Logic.{_≢_}
 use mathlib.Core.Bool.{true, false, _||_}
-use Prim.Native.Nat.{ℕ, zero, suc, _≤_, _<_}
+use Prim.Native.Nat.{ℕ, zero, suc, _+_, _≤_, _<_}
 use native.Mathlib.Omega.{arith}
 use native.Mathlib.Decide.{ℕ-discrete}
 use lib.Dec.{eqb, ltb}
-use borrow.Author.Tests.{eq-eqb, ne-eqb, eqb-true, lt-ltb, ltb-true, not-false}
+use borrow.Author.Tests.{eq-eqb, ne-eqb, eqb-true, lt-ltb, ltb-true, not-false, not-true}
 use Rattle.base.specs.Range.{some}
 use Rattle.base.proofs.BoolLaws.{not-both, and-left, and-right, or-false, or-right}
 use Rattle.base.proofs.RangeLaws.{some-passes}
@@ -14,8 +15,11 @@ use Rattle.smoothing.specs.Tree.{Link, child, leaf, metUp, within}
 -- ---- children and leaves
 
 module _ (n : ℕ) (parent : ℕ → ℕ) where
+  pub child-is : (c v : ℕ) → Link n c → parent c ≡ v → child parent v c ≡ true
+  child-is c v h e = rw (lt-ltb 0 c (h .0), eq-eqb (parent c) v e)
+
   pub child-of : (c : ℕ) → Link n c → child parent (parent c) c ≡ true
-  child-of c h = rw (lt-ltb 0 c (h .0), eq-eqb (parent c) (parent c) refl)
+  child-of c h = child-is c (parent c) h refl
 
   pub child-parts : (c v : ℕ) → child parent v c ≡ true → (0 < c) × (parent c ≡ v)
   child-parts c v e =
@@ -25,9 +29,32 @@ module _ (n : ℕ) (parent : ℕ → ℕ) where
   pub parent-inner : (c : ℕ) → Link n c → leaf n parent (parent c) ≡ false
   parent-inner c h = rw (some-passes (child parent (parent c)) n c (h .1) (child-of c h))
 
+  -- a leaf has no child
+  pub leaf-none : (v : ℕ) → leaf n parent v ≡ true → some (child parent v) n ≡ false
+  leaf-none v e = not-true (some (child parent v) n) e
+
   -- a node that is no leaf has a child
   pub inner-some : (v : ℕ) → leaf n parent v ≡ false → some (child parent v) n ≡ true
   inner-some v e = not-false (some (child parent v) n) e
+
+-- ---- from the leaves up and from the root down
+
+module _ (n : ℕ) (parent : ℕ → ℕ) (ordered : (v : ℕ) → Link n v → parent v < v) (Holds : ℕ → Type 0) where
+  -- what holds of each node whose children it holds of, holds of all
+  pub from-children : ((v : ℕ) → Link n v → ((c : ℕ) → Link n c → parent c ≡ v → Holds c) → Holds v) → (v : ℕ) → Link n v → Holds v
+  from-children step v h = down-to n v (omega arith) h
+    where
+      down-to : (m x : ℕ) → n ≤ x + m → Link n x → Holds x
+      down-to zero x l g = absurd (omega arith)
+      down-to (suc m) x l g = step x g (λ c i e. down-to m c (omega (arith, ordered c i, e)) i)
+
+  -- what holds of each node whose parent, if it is not the root, it holds of, holds of all
+  pub from-parent : ((v : ℕ) → Link n v → (parent v ≢ 0 → Holds (parent v)) → Holds v) → (v : ℕ) → Link n v → Holds v
+  from-parent step v h = up-to v v (omega arith) h
+    where
+      up-to : (m x : ℕ) → x ≤ m → Link n x → Holds x
+      up-to zero x l g = absurd (omega arith)
+      up-to (suc m) x l g = let o = ordered x g in step x g (λ ne. up-to m (parent x) (omega arith) (omega arith, omega arith))
 
 -- ---- at and below a node
 

@@ -7,10 +7,11 @@ use native.Mathlib.Omega.{arith}
 use native.Mathlib.Nat.{mul-le-mul-right}
 use lib.ListN.{length, getD}
 use Rattle.base.specs.Table.{tab}
-use Rattle.base.specs.Range.{sumOver, some, greatest, leastOver}
-use Rattle.smoothing.specs.Tree.{Tree, Link, Closed, put, unlessRoot, turnUp, turnDown, passUp, passDown, close, «open», leaf, metUp, within, totalFrom, total}
+use Rattle.base.specs.Range.{sumOver, some, howMany, greatest, leastOver}
+use Rattle.smoothing.specs.Tree.{Tree, Link, Closed, put, unlessRoot, turnUp, turnDown, passUp, passDown, close, «open», leaf, metUp, within, total}
 use Rattle.smoothing.specs.Row.{peak, greatestExcess, ceilDiv, leastPeak, lazyBefore, lazy}
 use Rattle.smoothing.specs.Plan.{Problem, KeepsRates, lower, upper, linkPeak, lazyPlan, plan}
+use Rattle.smoothing.specs.Choice.{secondNeed, handed, askOf, ask, chosen}
 use Rattle.smoothing.specs.Rates.{RateQuestion, WellFormedRates, FastEnough, problemWith, Serves, LeastMemories, floorRate, need, memory}
 use Rattle.smoothing.specs.Newton.{look, pass, nextPeak, newton, passesMade}
 use Rattle.smoothing.proofs.LeastMemoryLaws.{serves-fast, memory-least, served-plan}
@@ -161,14 +162,10 @@ rated-need : need rated 2 1 ∷ need rated 2 2 ∷ need rated 2 3 ∷ [] ≡ 6 �
 unfolding need floorRate leastOver some within metUp lazy lazyBefore greatestExcess greatest
 rated-need = refl
 
-rated-memory : memory rated 2 1 ∷ memory rated 2 2 ∷ memory rated 2 3 ∷ [] ≡ 6 ∷ 0 ∷ 6 ∷ []
-unfolding memory need floorRate leastOver some within metUp lazy lazyBefore greatestExcess greatest
+-- leaf 3 needs all that node 1 is asked for, and leaf 2 alone has more for it
+rated-memory : memory rated 2 1 ∷ memory rated 2 2 ∷ memory rated 2 3 ∷ total 4 (memory rated 2) ∷ [] ≡ 0 ∷ 6 ∷ 6 ∷ 12 ∷ []
+unfolding total sumOver chosen ask askOf handed secondNeed howMany need floorRate leastOver some within metUp lazy lazyBefore greatestExcess greatest
 rated-memory = refl
-
--- the totals over node 1 and those below it, over leaf 3, and over all links
-rated-total : totalFrom 4 (rated .parent) (memory rated 2) 1 ∷ totalFrom 4 (rated .parent) (memory rated 2) 3 ∷ total 4 (memory rated 2) ∷ [] ≡ 12 ∷ 6 ∷ 12 ∷ []
-unfolding totalFrom total sumOver memory need floorRate leastOver some within metUp lazy lazyBefore greatestExcess greatest
-rated-total = refl
 
 -- the theorems at work: with a delay of 2 these memories serve and are the least that do, and with a delay of 1 none serve
 rated-good : WellFormedRates rated
@@ -218,18 +215,30 @@ rated-plan = served-plan rated rated-good 2 (memory rated 2) (rated-least .serve
 rated-none : (b : ℕ → ℕ) → Serves rated 1 b → ⊥
 rated-none b served = let fast = serves-fast rated rated-good 1 .0 (b, served) 3 (omega arith) 2 (omega arith) in omega arith
 
--- ---- and a chain of three links with rates 2, 3 and 4, frames 0 and 4: each box holds what its need is above that of the next
+-- ---- the choice from needs: those of nodes 1, 2, .. under parents from node 1 on, and the memories
 
-abbrev line : RateQuestion
-line = record { n = 4; parent = entry (0 ∷ 0 ∷ 1 ∷ 2 ∷ []); r = entry (0 ∷ 2 ∷ 3 ∷ 4 ∷ []); M = 2; T = entry (0 ∷ 0 ∷ 4 ∷ []) }
+abbrev choice : List ℕ → List ℕ → ℕ → ℕ
+choice parents needs = chosen (length parents) (entry parents) (entry needs)
 
-line-need : need line 0 1 ∷ need line 0 2 ∷ need line 0 3 ∷ [] ≡ 2 ∷ 1 ∷ 0 ∷ []
-unfolding need floorRate leastOver some within metUp lazy lazyBefore greatestExcess greatest
-line-need = refl
+-- a chain: all goes down to the leaf
+choice-chain : tab (choice (0 ∷ 0 ∷ 1 ∷ 2 ∷ []) (0 ∷ 2 ∷ 1 ∷ 0 ∷ [])) 4 ≡ 0 ∷ 0 ∷ 0 ∷ 2 ∷ []
+unfolding chosen ask askOf handed secondNeed howMany leastOver some tab
+choice-chain = refl
 
-line-memory : memory line 0 1 ∷ memory line 0 2 ∷ memory line 0 3 ∷ total 4 (memory line 0) ∷ [] ≡ 1 ∷ 1 ∷ 0 ∷ 2 ∷ []
-unfolding total sumOver memory need floorRate leastOver some within metUp lazy lazyBefore greatestExcess greatest
-line-memory = refl
+-- two leaves share the least need: node 1 keeps what is above it
+choice-tie : tab (choice (0 ∷ 0 ∷ 1 ∷ 1 ∷ []) (0 ∷ 6 ∷ 5 ∷ 5 ∷ [])) 4 ≡ 0 ∷ 1 ∷ 5 ∷ 5 ∷ []
+unfolding chosen ask askOf handed secondNeed howMany leastOver some tab
+choice-tie = refl
+
+-- three leaves: node 1 hands on the second least need, and leaf 4 has its own, which is more
+choice-three : tab (choice (0 ∷ 0 ∷ 1 ∷ 1 ∷ 1 ∷ []) (0 ∷ 4 ∷ 1 ∷ 2 ∷ 3 ∷ [])) 5 ≡ 0 ∷ 2 ∷ 2 ∷ 2 ∷ 3 ∷ []
+unfolding chosen ask askOf handed secondNeed howMany leastOver some tab
+choice-three = refl
+
+-- what node 1 hands on, node 2 is asked for and hands on as far as it can: leaf 3 and node 2 under node 1, leaves 4 and 5 under node 2
+choice-deep : tab (choice (0 ∷ 0 ∷ 1 ∷ 1 ∷ 2 ∷ 2 ∷ []) (0 ∷ 9 ∷ 3 ∷ 7 ∷ 1 ∷ 2 ∷ [])) 6 ≡ 0 ∷ 2 ∷ 5 ∷ 7 ∷ 2 ∷ 2 ∷ []
+unfolding chosen ask askOf handed secondNeed howMany leastOver some tab
+choice-deep = refl
 
 -- ---- Newton's search between the rows 0 4 14 15 and 0 10 15 15: from 0 by 15 over 3 slots to 5, by 4 over 2 slots to 7
 

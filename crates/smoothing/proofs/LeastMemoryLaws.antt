@@ -1,181 +1,269 @@
--- No memories that serve total less than ours: not over a node and those below it, and not over all links.
-use mathlib.Core.Path.{_≡_, ap}
+-- The memories answered: their least ways are what the nodes are asked for, they have the least total, and of all that have it they are
+-- the least in order.
+use mathlib.Core.Path.{_≡_, refl, sym, ap, _∙_}
 use mathlib.Core.Logic.{_≢_, _⊎_, inl, inr, ⊎-elim, _↔_}
-use mathlib.Core.Bool.{Bool, true, false}
-use Prim.Native.Nat.{ℕ, zero, suc, _+_, _-_, _≤_, _<_}
+use mathlib.Core.Bool.{true, false}
+use Prim.Native.Nat.{ℕ, _≤_, _<_, max}
 use native.Mathlib.Omega.{arith}
-use lib.Dec.{ltb}
-use borrow.Author.Tests.{ltb-true, lt-ltb}
-use Rattle.base.specs.Range.{sumOver, leastOver}
-use Rattle.base.proofs.BoolLaws.{true-or-false}
-use Rattle.base.proofs.RangeLaws.{which-passes, leastOver-attained}
-use Rattle.smoothing.specs.Tree.{Link, child, leaf, within, totalFrom, total}
-use Rattle.smoothing.specs.Row.{greatestExcess, lazy}
-use Rattle.smoothing.specs.Plan.{Keeps, Optimal, KeepsRates, plan}
-use Rattle.smoothing.specs.Rates.{RateQuestion, WellFormedRates, D, problemWith, Serves, FastEnough, floorRate, need, memory, LeastMemories}
-use Rattle.smoothing.proofs.RowLaws.{rise-over, peak-rises, greatestExcess-above, greatestExcess-least}
-use Rattle.smoothing.proofs.LazyLaws.{lazy-least}
-use Rattle.smoothing.proofs.BelowLaws.{child-parts, inner-some, within-positive, within-child, within-induct}
-use Rattle.smoothing.proofs.SumLaws.{sum-covered}
-use Rattle.smoothing.proofs.NeedLaws.{floorRate-attained, need-least, need-parent}
-use Rattle.smoothing.proofs.ServeLaws.{problemWith-wellFormed, memory-leaf, memory-inner, memory-serves}
+use native.Mathlib.Decide.{ℕ-discrete}
+use Rattle.base.specs.Range.{leastOver}
+use Rattle.base.proofs.BoolLaws.{true-or-false, lt-or-le}
+use Rattle.base.proofs.RangeLaws.{some-passes, leastOver-below, leastOver-above, leastOver-attained, leastOver-cong}
+use Rattle.base.proofs.CountLaws.{howMany-some, pass-two, Pair, pair-up-to, up-to-pair}
+use Rattle.smoothing.specs.Tree.{Link, child, childCount, leaf, leastWay}
+use Rattle.smoothing.specs.Choice.{secondNeed, handed, ask, chosen}
+use Rattle.smoothing.specs.Plan.{Optimal, KeepsRates, plan}
+use Rattle.smoothing.specs.Rates.{RateQuestion, WellFormedRates, problemWith, Serves, FastEnough, need, Covers, SparesNothing}
+use Rattle.smoothing.specs.Rates.{LeastTotal, memory, LeastMemories}
 use Rattle.smoothing.proofs.OptimalLaws.{optimal-if-any, optimal-keeps-rates}
+use Rattle.smoothing.proofs.BelowLaws.{child-is, child-of, child-parts, inner-some, from-children, from-parent}
+use Rattle.smoothing.proofs.WayLaws.{way-next, way-leaf}
+use Rattle.smoothing.proofs.NeedLaws.{need-parent}
+use Rattle.smoothing.proofs.ServeLaws.{problemWith-wellFormed}
+use Rattle.smoothing.proofs.CoverLaws.{carried-fast, serves-covers}
+use Rattle.smoothing.proofs.TotalLaws.{total-needed, spares-total, total-spares}
+use Rattle.smoothing.proofs.ChoiceLaws.{second-least, second-is, handed-leaf, handed-one, handed-more, handed-under, ask-root, ask-next}
 
 module _ (Q : RateQuestion) (good : WellFormedRates Q) (w : ℕ) where
-  open RateQuestion Q using (n, parent, r, M, T)
+  open RateQuestion Q using (n, parent, r)
   open WellFormedRates good using (ordered)
 
-  -- ---- any memories that serve, with a plan of theirs
+  abbrev asked : ℕ → ℕ
+  asked = ask n parent (need Q w)
 
-  module _ (b′ : ℕ → ℕ) (S′ : ℕ → ℕ → ℕ) (served : KeepsRates (problemWith Q w b′) r S′) where
-    keeps : Keeps (problemWith Q w b′) S′
-    keeps = served .keeps
+  -- what v hands on of what it is asked for
+  abbrev onward : ℕ → ℕ
+  onward v = handed n parent (need Q w) v (asked v)
 
-    rises : (v : ℕ) → Link n v → (k : ℕ) → k < M + w → S′ v (suc k) ≤ S′ v k + r v
-    rises v h k l = omega (arith, peak-rises (M + w) (S′ v) k l, served .within-rate v h)
+  -- ---- what each node is asked for is its least way
 
-    -- every link has carried what the leaves play: at a leaf by its rule, above it by its children's
-    D-carried : (m v : ℕ) → n ≤ v + m → Link n v → (k : ℕ) → k ≤ M + w → D Q w k ≤ S′ v k
-    D-carried zero v l h k j = absurd (omega arith)
-    D-carried (suc m) v l h k j =
-        ⊎-elim
-        (λ e. rw e at (keeps .above-low v h k j))
-        (λ e.
-        let kid = which-passes (child parent v) n (inner-some n parent v e) in
-        let parts = child-parts n parent (kid .0) v (kid .2) in
-        let o = ordered (kid .0) (parts .0, kid .1) in
+  need-asked : (v : ℕ) → Link n v → need Q w v ≤ asked v
+  need-asked v h = go (ℕ-discrete (parent v) 0)
+    where
+      go : Dec (parent v ≡ 0) → need Q w v ≤ asked v
+      go (yes e) = omega (arith, ask-root n parent (need Q w) v e)
+      go (no ne) = omega (arith, ask-next n parent (need Q w) ordered v h ne)
+
+  -- a child c of v, with its ask
+  child-asked : (v c : ℕ) → Link n v → c < n → child parent v c ≡ true → Link n c × (parent c ≡ v) × (asked c ≡ max (need Q w c) (onward v))
+  child-asked v c h l q =
+      let (p, e) = child-parts n parent c v q in
+      ((p, l), e, rw e at (ask-next n parent (need Q w) ordered c (p, l) (omega (arith, e, h))))
+
+  -- two children with needs of at most the second least
+  second-pair : (v : ℕ) → 1 < childCount n parent v
+      → (i : ℕ) × (j : ℕ) × Pair (child parent v) (need Q w) n i j × (need Q w j ≤ secondNeed n parent (need Q w) v)
+  second-pair v many = pair-up-to (child parent v) (need Q w) (secondNeed n parent (need Q w) v) n (second-is n parent (need Q w) v many)
+
+  -- of the children's asks the least is what is handed on: no ask is less, and a child of the least need has no more
+  least-asked : (v : ℕ) → Link n v → leaf n parent v ≡ false → leastOver (child parent v) asked n ≡ onward v
+  least-asked v h e =
+      let any = inner-some n parent v e in
+      let (m, l, q, low) = leastOver-attained (child parent v) (need Q w) n any in
+      let (g, is, own) = child-asked v m h l q in
+      let down : need Q w m ≤ asked v =
+      omega (arith, need-asked v h, need-parent Q good w m g (omega (arith, is, h)), ap (need Q w) is) in
+      let few : need Q w m ≤ onward v =
+      ⊎-elim
+      (λ (many : 1 < childCount n parent v).
+      let (i, j, pair, up-to) = second-pair v many in
+      omega (
+        arith,
+        low,
+        down,
+        up-to,
+        pair .no-less,
+        handed-more n parent (need Q w) v (asked v) many,
+        leastOver-below (child parent v) (need Q w) n i (pair .first-in) (pair .first-passes),
+      ))
+      (λ (one : childCount n parent v ≤ 1).
+      omega (arith, down, handed-one n parent (need Q w) v (asked v) (omega (arith, howMany-some (child parent v) n any))))
+      (lt-or-le 1 (childCount n parent v)) in
+      omega (
+        arith,
+        own,
+        few,
+        leastOver-below (child parent v) asked n m l q,
+        leastOver-above (child parent v) asked n (onward v) any (λ c i s. omega (arith, child-asked v c h i s .2)),
+      )
+
+  way-asked : (v : ℕ) → Link n v → leastWay n parent (memory Q w) v ≡ asked v
+  unfolding chosen
+  way-asked =
+      from-children n parent ordered (λ v. leastWay n parent (memory Q w) v ≡ asked v) λ v h below.
+      ⊎-elim
+      (λ e. omega (arith, way-leaf n parent ordered (memory Q w) v (h .1) e, handed-leaf n parent (need Q w) v (asked v) e))
+      (λ e.
+      let same : leastOver (child parent v) (leastWay n parent (memory Q w)) n ≡ leastOver (child parent v) asked n =
+      leastOver-cong (child parent v) (leastWay n parent (memory Q w)) asked n
+      (λ c l q. let (g, is, own) = child-asked v c h l q in below c g is) in
+      omega (
+        arith,
+        way-next n parent ordered (memory Q w) v (h .1),
+        same,
+        least-asked v h e,
+        handed-under n parent (need Q w) v (asked v),
+      ))
+      (true-or-false (leaf n parent v))
+
+  -- ---- so they cover the needs, and nothing that can be spared
+
+  memory-covers : Covers Q w (memory Q w)
+  memory-covers v h = omega (arith, way-asked v h, need-asked v h)
+
+  -- of two children of u, one needs no less than is handed on
+  handed-pair : (u b c : ℕ) → Pair (child parent u) (need Q w) n b c → onward u ≤ need Q w c
+  handed-pair u b c h =
+      omega (
+        arith,
+        handed-more n parent (need Q w) u (asked u)
+            (pass-two (child parent u) n b c (h .differ) (h .first-in) (h .second-in) (h .first-passes) (h .second-passes)),
+        second-least n parent (need Q w) u (need Q w c) (up-to-pair (child parent u) (need Q w) (need Q w c) n b c h (omega arith)),
+      )
+
+  memory-spares : SparesNothing Q w (memory Q w)
+  memory-spares = record {
+    at-root = λ v h e. way-asked v h ∙ ask-root n parent (need Q w) v e;
+    at-sisters = λ u v h g ne e top less.
+        let o = ordered v g in
+        let i : Link n (parent v) = (omega arith, omega arith) in
+        let own = child-is n parent u (parent v) h e in
+        let own′ = child-of n parent v g in
+        let pair : Pair (child parent (parent v)) (need Q w) n u v = record {
+          first-in = h .1;
+          second-in = g .1;
+          first-passes = own;
+          second-passes = own′;
+          differ = ne;
+          no-less = less;
+        } in
         omega (
           arith,
-          D-carried m (kid .0) (omega arith) (parts .0, kid .1) k j,
-          keeps .closed k j (kid .0) (parts .0, kid .1) (omega arith) .0,
-          ap (λ u. S′ u k) (parts .1),
-        ))
-        (true-or-false (leaf n parent v))
-
-    -- so the links are fast enough
-    carried-fast : FastEnough Q w
-    carried-fast v h m l =
-        let a : D Q w (m + w) ≡ T m = ap T (omega arith) in
-        let c : m + w - 0 ≡ m + w = omega arith in
-        omega (
-          arith,
-          a,
-          D-carried n v (omega arith) h (m + w) (omega arith),
-          keeps .starts v h,
-          rw c at (rise-over (M + w) (r v) (S′ v) (rises v h) 0 (m + w) (omega arith) (omega arith)),
-        )
-
-    -- a link carries no less than any link below it
-    below-carried : (v : ℕ) → Link n v → (k : ℕ) → k ≤ M + w → (x : ℕ) → x < n → within parent v x ≡ true → S′ x k ≤ S′ v k
-    below-carried v h k j x l =
-        within-induct n parent ordered v h (λ x. S′ x k ≤ S′ v k) (omega arith)
-        (λ x g i ih. omega (arith, ih, keeps .closed k j x g (omega (arith, within-positive n parent ordered v h (parent x) i)) .0)) x l
-
-    -- the lazy row at the floor rate is at most what is carried: it is that of a link below, which carries no more
-    lazy-carried : (v : ℕ) → Link n v → (k : ℕ) → k ≤ M + w → lazy (M + w) (floorRate Q v) (D Q w) k ≤ S′ v k
-    lazy-carried v h k j =
-        let low = floorRate-attained Q good v h in
-        let x = low .0 in
-        let g : Link n x = (within-positive n parent ordered v h x (low .2), low .1) in
-        rw (low .3)
-        (omega (
-          arith,
-          lazy-least (M + w) (r x) (D Q w) (S′ x) k j (λ i p l. D-carried n x (omega arith) g i l) (λ i p l. rises x g i l),
-          below-carried v h k j x (low .1) (low .2),
-        ))
-
-    -- the greatest excess of what is carried over what is played
-    abbrev carriedExcess : ℕ → ℕ
-    carriedExcess v = greatestExcess (M + w) (S′ v) (D Q w)
-
-    need-excess : (v : ℕ) → Link n v → need Q w v ≤ carriedExcess v
-    need-excess v h = need-least Q good w v (carriedExcess v) (λ k j. omega (arith, lazy-carried v h k j, greatestExcess-above (M + w) (S′ v) (D Q w) k j))
-
-    excess-leaf : (v : ℕ) → Link n v → leaf n parent v ≡ true → carriedExcess v ≤ b′ v
-    excess-leaf v h e = greatestExcess-least (M + w) (S′ v) (D Q w) (b′ v) held
-      where
-        held : (k : ℕ) → k ≤ M + w → S′ v k ≤ D Q w k + b′ v
-        held zero j = omega (arith, keeps .starts v h)
-        held (suc k) j = let l = rw e at (keeps .below-high v h (suc k) j) in omega arith
-
-    excess-parent : (v : ℕ) → Link n v → parent v ≢ 0 → carriedExcess (parent v) ≤ carriedExcess v + b′ (parent v)
-    excess-parent v h ne =
-        greatestExcess-least (M + w) (S′ (parent v)) (D Q w) _
-        (λ k j. omega (arith, keeps .closed k j v h ne .1, greatestExcess-above (M + w) (S′ v) (D Q w) k j))
-
-    -- ---- the totals
-
-    -- our memory at v, with the excess over the need there, is covered by theirs, with the like of the child of least need
-    module _ (t : ℕ → Bool) (links : (v : ℕ) → t v ≡ true → 0 < v)
-        (down : (c : ℕ) → Link n c → t (parent c) ≡ true → t c ≡ true) where
-      slack : ℕ → ℕ
-      slack v = carriedExcess v - need Q w v
-
-      covered : (v : ℕ) → v < n → t v ≡ true
-          → (memory Q w v + slack v ≤ b′ v)
-          ⊎ ((c : ℕ) × (c < n) × (t c ≡ true) × (parent c ≡ v) × (memory Q w v + slack v ≤ b′ v + slack c))
-      unfolding slack
-      covered v h a =
-          let g : Link n v = (links v a, h) in
-          ⊎-elim
-          (λ e. inl (omega (arith, memory-leaf Q w v e, excess-leaf v g e, need-excess v g)))
-          (λ e. inr (inner g e (leastOver-attained (child parent v) (need Q w) n (inner-some n parent v e))))
-          (true-or-false (leaf n parent v))
-        where
-          inner : Link n v → leaf n parent v ≡ false
-              → (c : ℕ) × (c < n) × (child parent v c ≡ true) × (leastOver (child parent v) (need Q w) n ≡ need Q w c)
-              → (c : ℕ) × (c < n) × (t c ≡ true) × (parent c ≡ v) × (memory Q w v + (carriedExcess v - need Q w v) ≤ b′ v + (carriedExcess c - need Q w c))
-          inner g e low =
-              let c = low .0 in
-              let parts = child-parts n parent c v (low .2) in
-              let i : Link n c = (parts .0, low .1) in (
-                c,
-                low .1,
-                down c i (rw (parts .1) a),
-                parts .1,
-                omega (
-                  arith,
-                  memory-inner Q w v e,
-                  low .3,
-                  need-parent Q good w c i (omega (arith, parts .1)),
-                  ap (need Q w) (parts .1),
-                  excess-parent c i (omega (arith, parts .1)),
-                  ap carriedExcess (parts .1),
-                  ap b′ (parts .1),
-                  need-excess c i,
-                  need-excess v g,
-                ),
-              )
-
-      least-sum : sumOver t (memory Q w) n ≤ sumOver t b′ n
-      least-sum = sum-covered t parent n (memory Q w) b′ slack covered
-
-    least-from : (v : ℕ) → Link n v → totalFrom n parent (memory Q w) v ≤ totalFrom n parent b′ v
-    unfolding totalFrom
-    least-from v h =
-        least-sum (within parent v) (λ x e. within-positive n parent ordered v h x e)
-        (λ c g. within-child n parent ordered v c g)
-
-    least-total : total n (memory Q w) ≤ total n b′
-    unfolding total
-    least-total = least-sum (λ v. ltb 0 v) (λ v e. ltb-true 0 v e) (λ c g e. lt-ltb 0 c (g .0))
+          handed-pair (parent v) u v pair,
+          child-asked (parent v) u i (h .1) own .2,
+          child-asked (parent v) v i (g .1) own′ .2,
+          way-asked u h,
+          way-asked v g,
+        );
+  }
 
   -- ---- the theorems
 
   -- a delay serves with some memories just where the links are fast enough for it
   pub serves-fast : ((b : ℕ → ℕ) × Serves Q w b) ↔ FastEnough Q w
   serves-fast = (
-    λ given. carried-fast (given .0) (given .1 .0) (given .1 .1),
-    λ fast. (memory Q w, memory-serves Q w good fast),
+    λ given. carried-fast Q good w (given .0) (given .1 .0) (given .1 .1),
+    λ fast. (memory Q w, serves-covers Q good w fast (memory Q w) .1 memory-covers),
   )
 
-  -- and then ours are the least with which it serves
+  -- where the links are fast enough, those with the least total are just those that cover the needs and nothing that can be spared
+  pub least-totals : FastEnough Q w → (b : ℕ → ℕ) → LeastTotal Q w b ↔ (Covers Q w b × SparesNothing Q w b)
+  least-totals fast b = (
+    λ least.
+        let covers = serves-covers Q good w fast b .0 (least .0) in
+        let less = least .1 (memory Q w) (serves-covers Q good w fast (memory Q w) .1 memory-covers) in
+        (covers, total-spares Q good w b covers (omega (arith, less, spares-total Q good w (memory Q w) memory-covers memory-spares))),
+    λ both. (
+      serves-covers Q good w fast b .1 (both .0),
+      λ b′ served.
+          omega (
+            arith,
+            spares-total Q good w b (both .0) (both .1),
+            total-needed Q good w b′ (serves-covers Q good w fast b′ .0 served),
+          ),
+    ),
+  )
+
+  -- ---- other memories with the least total, which agree with ours at the nodes before v
+
+  module _ (b : ℕ → ℕ) (covers : Covers Q w b) (spares : SparesNothing Q w b) where
+    abbrev way : ℕ → ℕ
+    way = leastWay n parent b
+
+    -- a child of u has as much as it is asked for, where u has
+    child-way : (u v : ℕ) → Link n u → Link n v → parent v ≡ u → leastOver (child parent u) way n ≡ onward u → way v ≡ asked v
+    child-way u v h g is least =
+        let own = child-is n parent v u g is in
+        let (c, l, q, at) = leastOver-attained (child parent u) way n (some-passes (child parent u) n v (g .1) own) in
+        let (i, is′, x) = child-asked u c h l q in
+        let (j, is″, ours) = child-asked u v h (g .1) own in
+        omega (
+          arith,
+          ours,
+          covers v g,
+          least,
+          leastOver-below (child parent u) way n v (g .1) own,
+          most c i is′ at (ℕ-discrete c v) (lt-or-le (need Q w v) (need Q w c)),
+        )
+      where
+        most : (c : ℕ) → Link n c → parent c ≡ u → leastOver (child parent u) way n ≡ way c → Dec (c ≡ v)
+            → (need Q w v < need Q w c) ⊎ (need Q w c ≤ need Q w v) → way v ≤ max (need Q w v) (onward u)
+        most c i is′ at (yes e) less = omega (arith, at, least, ap way e)
+        most c i is′ at (no ne) (inl less) =
+            omega (arith, at, least, spares .at-sisters v c g i (λ e. ne (sym e)) (is ∙ sym is′) (omega (arith, is′, h)) (omega arith))
+        most c i is′ at (no ne) (inr less) =
+            omega (arith, spares .at-sisters c v i g ne (is′ ∙ sym is) (omega (arith, is, h)) less)
+
+    -- so going down from the root
+    asked-before : (v : ℕ) → ((u : ℕ) → Link n u → u < v → b u ≡ memory Q w u) → (x : ℕ) → Link n x → x ≤ v → way x ≡ asked x
+    unfolding chosen
+    asked-before v same =
+        from-parent n parent ordered (λ x. x ≤ v → way x ≡ asked x) λ x h above l.
+        let o = ordered x h in
+        step x h l above (ℕ-discrete (parent x) 0)
+      where
+        step : (x : ℕ) → Link n x → x ≤ v → (parent x ≢ 0 → parent x ≤ v → way (parent x) ≡ asked (parent x)) → Dec (parent x ≡ 0)
+            → way x ≡ asked x
+        step x h l above (yes e) = spares .at-root x h e ∙ sym (ask-root n parent (need Q w) x e)
+        step x h l above (no ne) =
+            let o = ordered x h in
+            let g : Link n (parent x) = (omega arith, omega arith) in
+            child-way (parent x) x g h refl
+            (omega (
+              arith,
+              above ne (omega arith),
+              way-next n parent ordered b (parent x) (g .1),
+              same (parent x) g (omega arith),
+              handed-under n parent (need Q w) (parent x) (asked (parent x)),
+            ))
+
+    -- no less at v than ours
+    no-less : (v : ℕ) → Link n v → way v ≡ asked v → memory Q w v ≤ b v
+    unfolding chosen
+    no-less v h is =
+        ⊎-elim
+        (λ e. omega (arith, is, way-leaf n parent ordered b v (h .1) e))
+        (λ e. ⊎-elim
+        (λ (many : 1 < childCount n parent v).
+        let (i, j, pair, up-to) = second-pair v many in
+        let (p, own) = child-parts n parent i v (pair .first-passes) in
+        let (q, own′) = child-parts n parent j v (pair .second-passes) in
+        omega (
+          arith,
+          is,
+          up-to,
+          handed-more n parent (need Q w) v (asked v) many,
+          way-next n parent ordered b v (h .1),
+          leastOver-below (child parent v) way n i (pair .first-in) (pair .first-passes),
+          spares .at-sisters i j (p, pair .first-in) (q, pair .second-in) (pair .differ) (own ∙ sym own′) (omega (arith, own′, h))
+              (pair .no-less),
+        ))
+        (λ (one : childCount n parent v ≤ 1).
+        omega (arith, handed-one n parent (need Q w) v (asked v) (omega (arith, howMany-some (child parent v) n (inner-some n parent v e)))))
+        (lt-or-le 1 (childCount n parent v)))
+        (true-or-false (leaf n parent v))
+
+  -- where the links are fast enough, ours have the least total, and of all that have it they are the least in order
   pub memory-least : FastEnough Q w → LeastMemories Q w (memory Q w)
-  memory-least fast = record {
-    serves = memory-serves Q w good fast;
-    least-from = λ b′ served. least-from b′ (served .0) (served .1);
-    least-total = λ b′ served. least-total b′ (served .0) (served .1);
-  }
+  memory-least fast =
+      let ours = least-totals fast (memory Q w) .1 (memory-covers, memory-spares) in
+      record {
+        serves = ours .0;
+        least-total = ours .1;
+        least-in-order = λ b served same v h before.
+            let (covers, spares) = least-totals fast b .0 (served, λ b′ also. omega (arith, same, ours .1 b′ also)) in
+            no-less b covers spares v h (asked-before b covers spares v before v h (omega arith));
+      }
 
   -- where w serves with b, the plan answered for w and b is optimal and passes no link's rate
   pub served-plan : (b : ℕ → ℕ) → Serves Q w b → let P = problemWith Q w b in Optimal P (plan P) × KeepsRates P r (plan P)

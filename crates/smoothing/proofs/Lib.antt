@@ -6,9 +6,13 @@ pub mod CurveLaws
 pub mod LazyPlanLaws
 pub mod OptimalLaws
 pub mod BelowLaws
-pub mod SumLaws
 pub mod NeedLaws
+pub mod WayLaws
 pub mod ServeLaws
+pub mod CoverLaws
+pub mod SumLaws
+pub mod TotalLaws
+pub mod ChoiceLaws
 pub mod LeastMemoryLaws
 pub mod NewtonPassLaws
 pub mod NewtonLaws

@@ -112,5 +112,4 @@ module _ (Q : RateQuestion) (good : WellFormedRates Q) where
 
   -- and so no memory does
   pub memory-delay : (w v : ℕ) → memory Q w v ≡ memory Q 0 v
-  unfolding memory
   memory-delay w v = let e : need Q w ≡ need Q 0 = fun-ext (need-delay w) in rw e

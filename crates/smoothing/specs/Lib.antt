@@ -1,4 +1,5 @@
 pub mod Tree
+pub mod Choice
 pub mod Row
 pub mod Plan
 pub mod Rates

@@ -1,11 +1,13 @@
--- Memories from rates: one play-out row for all leaves, floor rates, needs, memories, and what it is to serve.
+-- Memories from rates: one play-out row for all leaves, what it is to serve, floor rates, needs, what covers them, and the memories.
 use mathlib.Core.Path.{_≡_}
+use mathlib.Core.Logic.{_≢_}
 use mathlib.Core.Bool.{cond}
 use Prim.Native.Nat.{ℕ, zero, suc, _+_, _-_, _*_, _≤_, _<_, min}
 use Rattle.base.specs.Range.{leastOver}
-use Rattle.smoothing.specs.Tree.{Tree, Link, child, leaf, within, totalFrom, total}
+use Rattle.smoothing.specs.Tree.{Tree, Link, leaf, within, total, leastWay}
 use Rattle.smoothing.specs.Row.{greatestExcess, lazy}
 use Rattle.smoothing.specs.Plan.{Problem, KeepsRates}
+use Rattle.smoothing.specs.Choice.{chosen}
 
 -- n nodes with their parents and the rates r of their links; T m is what every leaf has played by m slots after its start, up to m = M
 pub record RateQuestion : Type 0 where
@@ -61,12 +63,29 @@ module _ (Q : RateQuestion) where
   unfoldable pub need : ℕ → ℕ → ℕ
   need w v = greatestExcess (M + w) (lazy (M + w) (floorRate v) (D w)) (D w)
 
-  -- a leaf's memory is its need; an inner node's is its need less the least need of its children
-  unfoldable pub memory : ℕ → ℕ → ℕ
-  memory w v = cond (leaf n parent v) (need w v) (need w v - leastOver (child parent v) (need w) n)
+  -- the memories b cover the needs: on each way down from a node to a leaf they sum to its need or more
+  abbrev pub Covers : ℕ → (ℕ → ℕ) → Type 0
+  Covers w b = (v : ℕ) → Link n v → need w v ≤ leastWay n parent b v
 
-  -- the memories b are the least with which w serves, in the total of every node and those below it, and in the total of all
+  -- they cover nothing that can be spared: a child of the root has just its need on its least way; and of two children of another node,
+  -- the one of no less need has just its need, and the other no more than that
+  pub record SparesNothing (w : ℕ) (b : ℕ → ℕ) : Type 0 where
+    pub at-root : (v : ℕ) → Link n v → parent v ≡ 0 → leastWay n parent b v ≡ need w v
+    pub at-sisters : (u v : ℕ) → Link n u → Link n v → u ≢ v → parent u ≡ parent v → parent v ≢ 0 → need w u ≤ need w v
+        → (leastWay n parent b v ≡ need w v) × (leastWay n parent b u ≤ need w v)
+
+  -- w serves with b, and with no memories of a lower total
+  abbrev pub LeastTotal : ℕ → (ℕ → ℕ) → Type 0
+  LeastTotal w b = Serves w b × ((b′ : ℕ → ℕ) → Serves w b′ → total n b ≤ total n b′)
+
+  -- the memories answered: those chosen from the needs
+  abbrev pub memory : ℕ → ℕ → ℕ
+  memory w = chosen n parent (need w)
+
+  -- of all memories with which w serves b has the least total, and of all that have it the least memory at node 1, then at node 2, and so on:
+  -- where others are the same at all nodes before v, b has no more than they at v
   pub record LeastMemories (w : ℕ) (b : ℕ → ℕ) : Type 0 where
     pub serves : Serves w b
-    pub least-from : (b′ : ℕ → ℕ) → Serves w b′ → (v : ℕ) → Link n v → totalFrom n parent b v ≤ totalFrom n parent b′ v
     pub least-total : (b′ : ℕ → ℕ) → Serves w b′ → total n b ≤ total n b′
+    pub least-in-order : (b′ : ℕ → ℕ) → Serves w b′ → total n b′ ≡ total n b → (v : ℕ) → Link n v
+        → ((u : ℕ) → Link n u → u < v → b′ u ≡ b u) → b v ≤ b′ v

@@ -1,9 +1,9 @@
--- The tree of links, closed families of numbers, the two passes over the tree, and who lies below whom.
+-- The tree of links, closed families of numbers, the two passes over the tree, who lies below whom, and the ways down.
 use mathlib.Core.Logic.{_≢_}
 use mathlib.Core.Bool.{Bool, cond, not, _&&_, _||_}
 use Prim.Native.Nat.{ℕ, zero, suc, _+_, _-_, _≤_, _<_, max, min}
 use lib.Dec.{eqb, ltb}
-use Rattle.base.specs.Range.{sumOver, some}
+use Rattle.base.specs.Range.{sumOver, some, howMany, leastOver}
 
 -- ---- trees and closed families
 
@@ -100,6 +100,10 @@ unfoldable pub «open» : Tree → (ℕ → ℕ) → ℕ → ℕ
 abbrev pub child : (ℕ → ℕ) → ℕ → ℕ → Bool
 child parent v c = ltb 0 c && eqb (parent c) v
 
+-- how many children v has among n nodes
+abbrev pub childCount : ℕ → (ℕ → ℕ) → ℕ → ℕ
+childCount n parent v = howMany (child parent v) n
+
 -- v is nobody's parent among n nodes
 abbrev pub leaf : ℕ → (ℕ → ℕ) → ℕ → Bool
 leaf n parent v = not (some (child parent v) n)
@@ -113,10 +117,15 @@ metUp parent v (suc d) x = eqb x v || (ltb 0 x && metUp parent v d (parent x))
 unfoldable pub within : (ℕ → ℕ) → ℕ → ℕ → Bool
 within parent v x = metUp parent v x x
 
--- the sum of f over the node v and those below it
-unfoldable pub totalFrom : ℕ → (ℕ → ℕ) → (ℕ → ℕ) → ℕ → ℕ
-totalFrom n parent f v = sumOver (within parent v) f n
-
 -- the sum of f over all links
 unfoldable pub total : ℕ → (ℕ → ℕ) → ℕ
 total n f = sumOver (λ v. ltb 0 v) f n
+
+-- the least sum of f on a way from v down to a leaf, both ends counted, or on its first d steps where it has more
+unfoldable pub leastWayOf : ℕ → (ℕ → ℕ) → (ℕ → ℕ) → ℕ → ℕ → ℕ
+leastWayOf n parent f zero v = f v
+leastWayOf n parent f (suc d) v = f v + leastOver (child parent v) (leastWayOf n parent f d) n
+
+-- the same with all its steps: no way has as many as there are nodes
+unfoldable pub leastWay : ℕ → (ℕ → ℕ) → (ℕ → ℕ) → ℕ → ℕ
+leastWay n parent f v = leastWayOf n parent f n v

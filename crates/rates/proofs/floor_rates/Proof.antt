@@ -6,16 +6,18 @@ use mathlib.Core.Path.{_≡_}
 use Prim.Native.Nat.{_-_, _≤_, _<_}
 use Rattle.job.specs.Read.{treeIn}
 use Rattle.job.proofs.TreeLaws.{link-is}
-use Rattle.rates.proofs.FloorLaws.{floorsBelow, floors-none, floors-more}
+use Rattle.rates.specs.Rates.{floorRate, leastRate}
+use Rattle.rates.specs.Work.{onLinks}
+use Rattle.rates.proofs.LinkLaws.{links-none, links-more}
 
 abbrev Inv-loop : tie.InvT-loop
-Inv-loop job least nodes floors₀ i₀ floors i = (0 < i) × ((i ≤ job .nodes) × (floors ≡ floorsBelow (treeIn job) i))
+Inv-loop job least nodes floors₀ i₀ floors i = (0 < i) × ((i ≤ job .nodes) × (floors ≡ onLinks i (floorRate (treeIn job)) (leastRate (treeIn job))))
 
 abbrev μ-loop : tie.MeasureT-loop
 μ-loop job least nodes floors₀ i₀ floors i = job .nodes - i
 
 loop-holds : tie.Need-loop-holds Inv-loop μ-loop
-loop-holds c = (omega arith, (omega (arith, c .pre .0 .nodes-from), rw (c .pre .1) (floors-none (treeIn (c .args .job)))))
+loop-holds c = (omega arith, (omega (arith, c .pre .0 .nodes-from), rw (c .pre .1) (links-none (floorRate (treeIn (c .args .job))) (leastRate (treeIn (c .args .job))))))
 
 floor-rate-requires : tie.Need-floor-rate-requires Inv-loop μ-loop
 floor-rate-requires c κs = (c .before .before .pre .0, link-is _ _ (c .before .loop .inv .0) (c .loop-test .taken))
@@ -36,7 +38,7 @@ loop-again : tie.Need-loop-again Inv-loop μ-loop
 loop-again c =
     let l = c .before .before .loop in
     let start = c .before .before .before in
-    let next = floors-more (treeIn (start .args .job)) (l .i) (l .inv .0)
+    let next = links-more (floorRate (treeIn (start .args .job))) (leastRate (treeIn (start .args .job))) (l .i) (l .inv .0)
     (omega (arith, c .before .loop-test .taken, start .pre .0 .nodes-to)) in
     (omega arith, (omega (arith, c .before .loop-test .taken), rw (c .floor-rate .ensures, l .inv .1 .1) next))
 

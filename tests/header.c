@@ -242,7 +242,7 @@ static void rows(void)
 /* The rate question on Tree Q, then with too few memories and with rate 0. */
 static void rate_question(void)
 {
-    static const uint64_t due[3] = { 6, 0, 6 };
+    static const uint64_t due[3] = { 0, 6, 6 };
     static const uint64_t untouched[3] = { 91, 92, 93 };
     uint8_t stopped[sizeof tree_q];
     uint64_t memories[3] = { 91, 92, 93 };
@@ -380,17 +380,17 @@ static void expect_bytes(const char *name, const uint8_t *expected,
     }
 }
 
-/* Answers that are refused, then that of the rate question put back into Tree Q:
-   the peaks of the plan are within the rates 5, 10, 4. */
+/* Answers that are refused, then that of the rate question put back into Tree Q: node 1
+   has no memory, so all rows are the same, and the peaks are within the rates 5, 10, 4. */
 static void put_back(void)
 {
     static const uint64_t plan_due[18] = {
         0, 2, 6, 10, 14, 15,
-        0, 0, 0, 4, 14, 15,
+        0, 2, 6, 10, 14, 15,
         0, 2, 6, 10, 14, 15
     };
-    static const uint64_t peaks_due[3] = { 4, 10, 4 };
-    uint64_t memories[4] = { 6, 0, 6, 7 };
+    static const uint64_t peaks_due[3] = { 4, 4, 4 };
+    uint64_t memories[4] = { 0, 6, 6, 7 };
     uint64_t plan[18];
     uint64_t peaks[3];
     uint8_t job[sizeof tree_q];
@@ -419,8 +419,9 @@ static void put_back(void)
 
     memories[2] = 6;
     memcpy(due, tree_q, sizeof due);
-    due[20] = 6; /* Memory of node 1, delays of nodes 2 and 3. */
+    due[20] = 0; /* Memory of node 1, delay and memory of node 2, delay of node 3. */
     due[31] = 2;
+    due[39] = 6;
     due[50] = 2;
     expect("put back", 0, relay_put_back(job, sizeof job, 2, memories, 3));
     expect_bytes("put back, bytes", due, job, sizeof job);

@@ -58,6 +58,15 @@ impl Job {
             .collect()
     }
 
+    /// The children of each node, the root's first.
+    pub fn children(&self) -> Vec<Vec<usize>> {
+        let mut children = vec![Vec::new(); self.records.len() + 1];
+        for (node, record) in (1..).zip(&self.records) {
+            children[usize::from(record.parent)].push(node);
+        }
+        children
+    }
+
     /// The record of `node`, which is above 0.
     pub fn record(&mut self, node: usize) -> &mut Record {
         &mut self.records[node - 1]

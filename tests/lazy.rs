@@ -1,5 +1,17 @@
-//! The independent answer to the rate question, as the document writes it: every
-//! slot of every lazy schedule, from the last back, in wide signed numbers.
+//! The independent answer to the rate question: every slot of every lazy schedule, from
+//! the last back, in wide signed numbers, and the memories by layers of bytes.
+//!
+//! A set of memories serves just where, on each way from a node down to a leaf, they
+//! add up to at least the node's need. So each byte of a need has a holder on each such
+//! way, and the bytes can be looked at one by one. A leaf that is asked for a byte holds
+//! it. An inner node that is asked for it asks the children that need it themselves in
+//! any case. Each of its other children would cost one holder, as the node itself does:
+//! two or more cost more, so the node holds the byte; one costs the same and has a
+//! higher number, so the node asks it and holds nothing; and where there is none, every
+//! way down has its holder already.
+//!
+//! A layer is the bytes between two neighbouring needs, or below the least one; they all
+//! have the same holders.
 
 use crate::job::Job;
 
@@ -10,8 +22,9 @@ const LONGEST: i128 = 4_096;
 pub struct Sizes {
     pub delay: u64,
     pub total: u64,
-    /// Node 1's first.
+    /// Node 1's first, as are the needs.
     pub memories: Vec<u64>,
+    pub needs: Vec<u64>,
 }
 
 /// None where no delay up to 4,096 serves.
@@ -23,22 +36,16 @@ pub fn sizes(job: &Job) -> Option<Sizes> {
     let played: Vec<i128> = (0..=frames + delay)
         .map(|slot| sums[(slot - delay).max(0) as usize])
         .collect();
-    let needs: Vec<i128> = floor_rates(job)
+    let needs: Vec<u64> = floor_rates(job)
         .into_iter()
-        .map(|rate| need(&played, rate))
+        .map(|rate| need(&played, rate) as u64)
         .collect();
-    let memories: Vec<u64> = (1..=needs.len())
-        .map(|node| {
-            let children = (1..=needs.len())
-                .filter(|&child| usize::from(job.records[child - 1].parent) == node);
-            let least = children.map(|child| needs[child - 1]).min();
-            (needs[node - 1] - least.unwrap_or(0)) as u64
-        })
-        .collect();
+    let memories = memories(job, &needs);
     Some(Sizes {
         delay: delay as u64,
         total: memories.iter().sum(),
         memories,
+        needs,
     })
 }
 
@@ -93,4 +100,40 @@ fn need(played: &[i128], rate: i128) -> i128 {
         most = most.max(carried - due);
     }
     most
+}
+
+/// The memories for these needs, node 1's first.
+fn memories(job: &Job, needs: &[u64]) -> Vec<u64> {
+    let children = job.children();
+    let mut ends = needs.to_vec();
+    ends.sort_unstable();
+    ends.dedup();
+    let mut memories = vec![0; needs.len()];
+    let mut start = 0;
+    for end in ends {
+        for node in holders(&children, needs, end) {
+            memories[node - 1] += end - start;
+        }
+        start = end;
+    }
+    memories
+}
+
+/// The nodes that hold the layer with this upper end. A node needs it where its need
+/// reaches that end, and then so does the node above.
+fn holders(children: &[Vec<usize>], needs: &[u64], end: u64) -> Vec<usize> {
+    let needing = |node: &usize| needs[node - 1] >= end;
+    let mut asked: Vec<usize> = children[0].iter().copied().filter(needing).collect();
+    let mut holders = Vec::new();
+    while let Some(node) = asked.pop() {
+        let below = &children[node];
+        let others = below.iter().filter(|child| !needing(child)).count();
+        if below.is_empty() || others > 1 {
+            holders.push(node);
+            asked.extend(below.iter().copied().filter(needing));
+        } else {
+            asked.extend(below);
+        }
+    }
+    holders
 }

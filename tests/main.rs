@@ -9,6 +9,7 @@ mod answer;
 mod arguments;
 mod asking;
 mod brute;
+mod choice;
 mod edges;
 mod faults;
 mod films;

@@ -41,12 +41,12 @@ pub const MOST: u64 = 20_000;
 /// Most bytes of a text that are shown.
 const SHOWN: usize = 2_000;
 
-/// The listing of the document.
+/// The listing of the documents.
 const LISTING: &str = "0 4 15
 1 7 0 7 14 15 15
 2 10 0 4 14 15 15
 3 5 0 5 10 14 15
-0 2 12 6 0 6
+0 2 12 0 6 6
 ";
 
 pub struct Program;
@@ -285,7 +285,7 @@ fn ended(child: &Mutex<Child>) -> io::Result<ExitStatus> {
 
 /// The document's examples, no bytes at all, and Tree Q cut to each length.
 fn examples(_: &mut Rng) -> Vec<Vec<u8>> {
-    assert_eq!(text(&TREE_Q).text, LISTING, "the text against the document");
+    assert_eq!(text(&TREE_Q).text, LISTING, "the text against the listing");
     let mut cases: Vec<Vec<u8>> = example_jobs().iter().map(Job::encode).collect();
     cases.extend((0..TREE_Q.len()).map(|length| TREE_Q[..length].to_vec()));
     cases

@@ -188,16 +188,17 @@ pub fn put(
     Ok((number, job.held().to_vec()))
 }
 
-/// Tree Q with delay 2 and memories 6, 0, 6, by hand.
+/// Tree Q with delay 2 and memories 0, 6, 6, by hand.
 fn tree_q(_: &mut Rng) -> Vec<Case> {
     let mut hand = TREE_Q;
-    hand[20] = 6;
+    hand[20] = 0;
     hand[31] = 2;
+    hand[39] = 6;
     hand[50] = 2;
     let job = Job::decode(&TREE_Q);
-    let written = writer::put_back(&job, 2, &[6, 0, 6]).encode();
+    let written = writer::put_back(&job, 2, &[0, 6, 6]).encode();
     assert_eq!(written, hand, "the writer against Tree Q by hand");
-    vec![by_hand(2, &[6, 0, 6], 0)]
+    vec![by_hand(2, &[0, 6, 6], 0)]
 }
 
 /// Tree Q, which has three links, with this answer and number.

@@ -10,6 +10,7 @@ use crate::lazy;
 use crate::rng::Rng;
 use crate::shapes::{at_bounds, Shape, SHAPES, TREES_OF_2, TREES_OF_3, TREES_OF_4};
 use crate::sizing::Case;
+use crate::trees;
 
 /// A job with these parents, rates and frames.
 fn made(parents: &[u8], rates: &[u64], frames: Vec<u32>, rng: &mut Rng) -> Job {
@@ -30,9 +31,12 @@ fn any_parents(nodes: usize, rng: &mut Rng) -> Vec<u8> {
     rng.pick(&SHAPES).parents(nodes, rng)
 }
 
-/// The document's examples; the independent sizes must be the document's.
+/// The documents' examples; the independent sizes must be theirs. In Tree Q, with delay 2,
+/// 0, 0, 0, 4, 14, 15 are played by slots 0 to 5. The floor rates are 4, 10, 4; the lazy
+/// schedules at 4 and at 10 are 0, 2, 6, 10, 14, 15 and 0, 0, 0, 4, 14, 15; the needs are
+/// 6, 0, 6. Node 3 holds its 6 in any case, and node 2 can hold those of node 1 alone.
 pub fn examples(_: &mut Rng) -> Vec<Case> {
-    let q = Some((2, 12, vec![6, 0, 6]));
+    let q = Some((2, 12, vec![0, 6, 6]));
     let due = [
         q.clone(),
         q.clone(),
@@ -47,9 +51,57 @@ pub fn examples(_: &mut Rng) -> Vec<Case> {
     let jobs = example_jobs();
     for (job, due) in jobs.iter().zip(due) {
         let got = lazy::sizes(job).map(|sizes| (sizes.delay, sizes.total, sizes.memories));
-        assert!(got == due, "the independent sizes against the document");
+        assert!(got == due, "the independent sizes against the documents");
     }
     jobs.into_iter().map(Case::job).collect()
+}
+
+/// Trees by hand, for a film of one frame of 10 bytes; the independent sizes must be
+/// these. The delay is the least w with 10 ≤ (least rate) × (1 + w). All 10 bytes are
+/// played in the last slot, in which a lazy schedule brings as many as its rate allows,
+/// so that a need is 10 less the floor rate, and 0 from floor rate 10 on. A child may
+/// hold more than it needs in its parent's stead; where two would have to, the parent
+/// keeps the bytes.
+pub fn by_hand(rng: &mut Rng) -> Vec<Case> {
+    // Parents, rates, delay, memories.
+    let due: [(&[u8], &[u64], u64, &[u64]); 12] = [
+        // Needs 6, 3. An only child holds all 6.
+        (&[0, 1], &[4, 7], 2, &[0, 6]),
+        // Needs 8, 7, 5, 4, 1, in a chain. All 8 go down to the leaf.
+        (&[0, 1, 2, 3, 4], &[2, 3, 5, 6, 9], 4, &[0, 0, 0, 0, 8]),
+        // Needs 7, 4, 4. Past 4 both leaves would hold more: node 1 keeps 3.
+        (&[0, 1, 1], &[3, 6, 6], 3, &[3, 4, 4]),
+        // Needs 7, 7, 4: the floor rate of node 1 is node 2's. Node 3 alone holds more.
+        (&[0, 1, 1], &[9, 3, 6], 3, &[0, 7, 7]),
+        // Needs 8, 5, 7, 2. Node 4 alone holds more up to 5. Past 5 node 2 would too:
+        // node 1 keeps 3.
+        (&[0, 1, 1, 1], &[2, 5, 3, 8], 4, &[3, 5, 7, 5]),
+        // Needs 8, 2, 2, 7. Past 2 nodes 2 and 3 would hold more: node 1 keeps 6.
+        (&[0, 1, 1, 1], &[2, 8, 8, 3], 4, &[6, 2, 2, 7]),
+        // Needs 8, 3, 6, 1. Node 2 alone holds more up to 6, and node 1 keeps 2. The 6
+        // go on to node 2's only child.
+        (&[0, 1, 1, 2], &[2, 7, 4, 9], 4, &[2, 0, 6, 6]),
+        // Needs 8, 3, 6, 1, 2. The same, but of the 6 past 2 both children of node 2
+        // would hold more: it keeps 4.
+        (&[0, 1, 1, 2, 2], &[2, 7, 4, 9, 8], 4, &[2, 4, 6, 2, 2]),
+        // Needs 5, 6, 2. Nodes 1 and 2 have the root alone in common.
+        (&[0, 0, 2], &[5, 4, 8], 2, &[5, 0, 6]),
+        // Needs 6, 0, 3. Node 2 alone holds more up to 3, and node 1 keeps 3.
+        (&[0, 1, 1], &[4, 10, 7], 2, &[3, 3, 3]),
+        // Needs 6, 0, 0. Both leaves would hold more at once: node 1 keeps 6.
+        (&[0, 1, 1], &[4, 11, 10], 2, &[6, 0, 0]),
+        // Needs 0, 0, 0.
+        (&[0, 1, 1], &[10, 12, 11], 0, &[0, 0, 0]),
+    ];
+    let mut cases = Vec::new();
+    for (parents, rates, delay, memories) in due {
+        let job = made(parents, rates, vec![10], rng);
+        let sizes = lazy::sizes(&job).expect("a delay");
+        assert_eq!(sizes.delay, delay, "the delay by hand");
+        assert_eq!(sizes.memories, memories, "the memories by hand");
+        cases.push(Case::known(job, delay));
+    }
+    cases
 }
 
 /// Each list of `length` numbers up to `most`.
@@ -82,26 +134,22 @@ pub fn every_tiny(rng: &mut Rng) -> Vec<Case> {
 
 /// Random jobs small enough for the brute-force search.
 pub fn tiny(_: u64, rng: &mut Rng) -> Case {
-    let (nodes, most) = rng.pick(&[(2, 20), (3, 9), (3, 12), (4, 5), (4, 5), (4, 6), (5, 3)]);
-    let parents = match nodes {
-        4 => rng
-            .pick(&[[0, 1, 1], [0, 1, 1], [0, 1, 2], [0, 0, 1]])
-            .to_vec(),
-        _ => any_parents(nodes, rng),
-    };
+    let (nodes, most) = rng.pick(&[(2, 20), (3, 12), (4, 5), (4, 6), (5, 3), (5, 3), (6, 2)]);
+    let parents = trees::any_parents(nodes, rng);
     let total = rng.within(most / 2..=most);
     let mut left = total;
     let mut frames = Vec::new();
     for _ in 0..rng.within(2..=4) {
-        let frame = rng.within(0..=left);
+        let any = rng.within(0..=left);
+        let frame = rng.pick(&[left, any, any]);
         frames.push(frame as u32);
         left -= frame;
     }
     let least = u64::from(!rng.one_in(24));
-    let rates: Vec<u64> = parents
-        .iter()
-        .map(|_| rng.within(least..=1 + total / 2))
-        .collect();
+    // Rates of 1 to 3 at least, so that three needs may differ.
+    let greatest = (1 + total / 2).max(3);
+    let rate = |_: &u8| rng.within(least..=greatest);
+    let rates: Vec<u64> = parents.iter().map(rate).collect();
     Case::job(made(&parents, &rates, frames, rng))
 }
 
@@ -134,6 +182,22 @@ pub fn small_job(rng: &mut Rng) -> Job {
         _ => {}
     }
     made(&parents, &rates, frames, rng)
+}
+
+/// Random jobs in which a few nodes have most of the others as children, and few rates
+/// differ: siblings often share a need.
+pub fn families(_: u64, rng: &mut Rng) -> Case {
+    let most = rng.pick(&[24, MOST_NODES as u64]);
+    let nodes = rng.within(4..=most) as usize;
+    let parents = trees::any_parents(nodes, rng);
+    let count = rng.within(1..=8);
+    let most = rng.pick(&[12, 1_000, u64::from(GREATEST_FRAME)]);
+    let frames: Vec<u32> = (0..count).map(|_| rng.within(0..=most) as u32).collect();
+    let total: u64 = frames.iter().map(|&frame| u64::from(frame)).sum();
+    let mean = total / count;
+    let few = [0; 4].map(|_| rng.within(mean / 2..=2 * mean + 1));
+    let rates: Vec<u64> = parents.iter().map(|_| rng.pick(&few)).collect();
+    Case::job(made(&parents, &rates, frames, rng))
 }
 
 /// Jobs whose least delay is known: up to frame m the film fits the least rate with

@@ -8,7 +8,8 @@
 //! Memories from 0 to T(M) are all that is to be tried. By P1 no link carries more
 //! than T(M), so in P2 and P3 a memory of T(M) already allows all that any larger
 //! one does. A set with a larger memory therefore serves just where it does with
-//! T(M) in that place, and then no total is larger.
+//! T(M) in that place, its total is larger then, and it is none of the sets of least
+//! total.
 //!
 //! Delays from 0 to T(M) are all that is to be tried. Where T(M) is 0, delay 0
 //! serves. Else a link of rate 0 never carries the film, whatever the delay; and
@@ -31,8 +32,11 @@ pub struct Found {
     pub delay: u64,
     /// The least total of the sets with which it serves.
     pub total: u64,
-    /// The least total of each node and those below it, node 1's first.
-    pub below: Vec<u64>,
+    /// Of the sets of that total, the one with the least memory at node 1, then at
+    /// node 2 and so on.
+    pub memories: Vec<u64>,
+    /// How many sets of that total there are.
+    pub sets: usize,
 }
 
 /// Whether `job` is small enough for the search.
@@ -47,53 +51,26 @@ pub fn search(job: &Job) -> Option<Found> {
     (0..=total(job)).find_map(|delay| at_delay(job, delay))
 }
 
-/// The total of `node` and those below it.
-pub fn total_below(job: &Job, memories: &[u64], node: usize) -> u64 {
-    let with = (1..).zip(memories);
-    with.filter(|&(other, _)| is_below(job, other, node))
-        .map(|(_, memory)| memory)
-        .sum()
-}
-
-/// Whether `node` is `top` or below it.
-fn is_below(job: &Job, mut node: usize, top: usize) -> bool {
-    while node > top {
-        node = usize::from(job.records[node - 1].parent);
-    }
-    node == top
-}
-
 fn total(job: &Job) -> u64 {
     job.frames.iter().map(|&frame| u64::from(frame)).sum()
 }
 
 /// What is least at this delay, where it serves with some set.
 fn at_delay(job: &Job, delay: u64) -> Option<Found> {
-    let links = job.records.len();
-    let columns = columns(links, total(job));
-    let mut found: Option<Found> = None;
-    // The sets and the columns run through the same numbers.
-    for memories in &columns {
-        if !reaches(job, delay, memories, &columns) {
-            continue;
-        }
-        let best = found.get_or_insert_with(|| Found {
-            delay,
-            total: u64::MAX,
-            below: vec![u64::MAX; links],
-        });
-        best.total = best.total.min(memories.iter().sum());
-        for (node, least) in (1..).zip(&mut best.below) {
-            *least = (*least).min(total_below(job, memories, node));
-        }
-    }
-    found
-}
-
-/// Whether `delay` serves with these memories.
-pub fn serves(job: &Job, delay: u64, memories: &[u64]) -> bool {
     let columns = columns(job.records.len(), total(job));
-    reaches(job, delay, memories, &columns)
+    // The sets and the columns run through the same numbers. The sets come by their
+    // totals, and those of one total by node 1's memory, then by node 2's and so on.
+    let mut sets: Vec<(u64, &Column)> = columns.iter().map(|set| (set.iter().sum(), set)).collect();
+    sets.sort_unstable();
+    let serves = |(_, set): &&(u64, &Column)| reaches(job, delay, set, &columns);
+    let &(total, memories) = sets.iter().find(serves)?;
+    let of_total = sets.iter().filter(|set| set.0 == total);
+    Some(Found {
+        delay,
+        total,
+        memories: memories.clone(),
+        sets: of_total.filter(serves).count(),
+    })
 }
 
 type Column = Vec<u64>;

@@ -10,7 +10,7 @@ use crate::problem::{equal, holds, same, Problem};
 use crate::putting::put;
 use crate::rules::Rules;
 use crate::section::Tally;
-use crate::{lazy, reader, sizes_brute, writer};
+use crate::{choice, lazy, reader, sizes_brute, writer};
 
 /// Plans of more numbers are asked for only where a case says so.
 const MOST_ASKED: usize = 40_000;
@@ -98,9 +98,7 @@ pub fn check(case: &Case, tally: &mut Tally) -> Result<(), Problem> {
     if let (Some(job), Some(sizes)) = (&case.job, &sizes) {
         tally.value("answers", 0);
         tally.one_if("answers with delay 4,096", sizes.delay == 4_096);
-        let mut inner = job.nodes(true).into_iter();
-        let held = inner.any(|node| sizes.memories[node - 1] > 0);
-        tally.one_if("answers with a memory at an inner node", held);
+        choice::count(job, sizes, tally);
         put_back(job, sizes, case.asked, tally)?;
     }
     Ok(())
@@ -116,12 +114,14 @@ fn search(
     let found = sizes_brute::search(job);
     tally.value("searched by brute force", 0);
     tally.one_if("searched, with a delay", found.is_some());
+    let several = found.as_ref().is_some_and(|found| found.sets > 1);
+    tally.one_if("searched, with several sets of least total", several);
     let independent = sizes.as_ref().map(|s| (s.delay, s.total, &s.memories[..]));
-    as_found(job, &found, independent)
+    as_found(&found, independent)
         .map_err(|problem| format!("brute force against the independent sizes: {problem}"))?;
     let (got, memories) = call(&case.bytes, case.memories, 0)?;
     let library = (got.number == 0).then_some((got.delay, got.total, memories.held()));
-    as_found(job, &found, library)
+    as_found(&found, library)
         .map_err(|problem| format!("brute force against the library: {problem}"))
 }
 
@@ -188,10 +188,8 @@ fn expected(case: &Case) -> Result<(u64, Option<lazy::Sizes>), Problem> {
     Ok((number, sizes))
 }
 
-/// Whether a delay, a total and memories are what the search finds least, of each
-/// node with those below it too, and serve.
+/// Whether a delay, a total and memories are what the search finds least.
 fn as_found(
-    job: &Job,
     found: &Option<sizes_brute::Found>,
     sizes: Option<(u64, u64, &[u64])>,
 ) -> Result<(), Problem> {
@@ -201,12 +199,7 @@ fn as_found(
     };
     equal("delay", found.delay, delay)?;
     equal("least total", found.total, total)?;
-    for (node, &least) in (1..).zip(&found.below) {
-        let below = sizes_brute::total_below(job, memories, node);
-        equal(&format!("least total from node {node} down"), least, below)?;
-    }
-    let served = sizes_brute::serves(job, delay, memories);
-    holds("the memories serve", served)
+    same("least memory of node", 1, &found.memories, memories)
 }
 
 /// Asks the library. Guards, the job's bytes and, on a refusal, the lent words

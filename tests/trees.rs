@@ -37,7 +37,7 @@ fn trunk(nodes: usize, rng: &mut Rng) -> Vec<u8> {
 }
 
 /// A trunk, or at times one of the shapes.
-fn any_parents(nodes: usize, rng: &mut Rng) -> Vec<u8> {
+pub fn any_parents(nodes: usize, rng: &mut Rng) -> Vec<u8> {
     if rng.one_in(8) {
         return rng.pick(&SHAPES).parents(nodes, rng);
     }

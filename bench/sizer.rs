@@ -62,21 +62,11 @@ impl Sizer {
             let u = nodes[v].parent;
             nodes[u].rate = nodes[u].rate.min(nodes[v].rate);
         }
-        let needs = needs_of(film, nodes);
-        let mut least_child = [u64::MAX; MOST_NODES];
-        let mut total = 0;
-        for v in (1..n).rev() {
-            let need = needs[v];
-            let below = if nodes[v].leaf { 0 } else { least_child[v] };
-            memories[v - 1] = need - below;
-            total += need - below;
-            let u = nodes[v].parent;
-            least_child[u] = least_child[u].min(need);
-        }
+        choose(nodes, &needs_of(film, nodes), memories);
         RateAnswer {
             number: 0,
             delay,
-            total,
+            total: memories.iter().sum(),
         }
     }
 }
@@ -133,4 +123,23 @@ fn needs(film: &[f64], rates: &[f64; LANES]) -> [f64; LANES] {
         }
     }
     most
+}
+
+/// The memories. A node hands on what it is asked for as far as one child at most would hold
+/// more than it needs: up to the second least need, or all of it to an only child.
+fn choose(nodes: &[Node], needs: &[u64; MOST_NODES], memories: &mut [u64]) {
+    let mut two_least = [[u64::MAX; 2]; MOST_NODES];
+    for (node, &need) in nodes.iter().zip(needs).skip(1) {
+        let [least, second] = &mut two_least[node.parent];
+        *second = need.max(*least).min(*second);
+        *least = need.min(*least);
+    }
+    let mut handed_on = [0; MOST_NODES];
+    for (v, node) in nodes.iter().enumerate().skip(1) {
+        let asked = needs[v].max(handed_on[node.parent]);
+        if !node.leaf {
+            handed_on[v] = asked.min(two_least[v][1]);
+        }
+        memories[v - 1] = asked - handed_on[v];
+    }
 }

@@ -9,7 +9,6 @@ use lib.Dec.{eqb, ltb}
 use borrow.Author.Tests.{eq-eqb, ne-eqb, eqb-true, lt-ltb, ltb-true, not-false, not-true}
 use Rattle.base.specs.Range.{some}
 use Rattle.base.proofs.BoolLaws.{not-both, and-left, and-right, or-false, or-right}
-use Rattle.base.proofs.RangeLaws.{some-passes}
 use Rattle.smoothing.specs.Tree.{Link, child, leaf, metUp, within}
 
 -- ---- children and leaves
@@ -26,9 +25,6 @@ module _ (n : ℕ) (parent : ℕ → ℕ) where
       (ltb-true 0 c (and-left (ltb 0 c) (eqb (parent c) v) e), eqb-true (parent c) v (and-right (ltb 0 c) (eqb (parent c) v) e))
 
   -- a parent is no leaf
-  pub parent-inner : (c : ℕ) → Link n c → leaf n parent (parent c) ≡ false
-  parent-inner c h = rw (some-passes (child parent (parent c)) n c (h .1) (child-of c h))
-
   -- a leaf has no child
   pub leaf-none : (v : ℕ) → leaf n parent v ≡ true → some (child parent v) n ≡ false
   leaf-none v e = not-true (some (child parent v) n) e

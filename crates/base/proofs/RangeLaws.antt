@@ -99,6 +99,11 @@ unfolding fold
 fold-cong step z p q zero h = refl
 fold-cong step z p q (suc n) h = rw (fold-cong step z p q n (λ i l. h i (omega arith)), h n (omega arith))
 
+pub greatest-cong : (f g : ℕ → ℕ) (n : ℕ) → ((i : ℕ) → i < n → f i ≡ g i) → greatest f n ≡ greatest g n
+unfolding greatest
+greatest-cong f g zero h = refl
+greatest-cong f g (suc n) h = rw (greatest-cong f g n (λ i q. h i (omega arith)), h n (omega arith))
+
 -- ---- none from p to q - 1 passes: what is asked up to q is what is asked up to p
 
 module _ {A : Type 0} (step : A → ℕ → A) (z : A) (p : ℕ → Bool) where

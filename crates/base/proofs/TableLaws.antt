@@ -7,7 +7,8 @@ use native.Mathlib.Omega.{arith}
 use native.Mathlib.Nat.{suc-mul, mul-le-mul-right}
 use native.Mathlib.Numerals.{add-one}
 use lib.ListN.{length, take, drop, getD, set, length-append, length-take, length-drop, List·getD-append, List·getD-eq-default, length-set}
-use lib.Seq.{take-at, drop-at, set-at, drop-cons, drop-drop, drop-length, getD-at, getD-append-add, ext-getD}
+use lib.Seq.{take-at, drop-at, set-at, drop-cons, drop-drop, drop-length, getD-at, getD-append-add, getD-set-same, getD-set-other, ext-getD}
+use native.Mathlib.Decide.{ℕ-discrete}
 use Rattle.base.specs.Table.{tab, rowsOf, Filled}
 use Rattle.base.proofs.BoolLaws.{last-or-below}
 
@@ -45,6 +46,16 @@ tab-cong f g (suc n) h = rw (tab-cong f g n (λ k q. h k (omega arith)), h n (om
 pub tab-of-list : (l : List ℕ) (n : ℕ) → length l ≡ n → l ≡ tab (λ i. getD l i 0) n
 tab-of-list l n h =
     ext-getD 0 l _ (h ∙ sym (length-tab (λ i. getD l i 0) n)) (λ i q. sym (getD-tab (λ i. getD l i 0) n i (omega arith)))
+
+-- a store makes another table, which has the number stored there and the same elsewhere
+pub tab-set : (f g : ℕ → ℕ) (n k x : ℕ) → k < n → g k ≡ x → ((i : ℕ) → (i ≡ k → ⊥) → f i ≡ g i) → set (tab f n) k x ≡ tab g n
+tab-set f g n k x h here elsewhere =
+    ext-getD 0 _ _ (length-set (tab f n) k x ∙ length-tab f n ∙ sym (length-tab g n)) (λ i q.
+    cell i (omega (arith, length-set (tab f n) k x, length-tab f n)) (ℕ-discrete i k))
+  where
+    cell : (i : ℕ) → i < n → Dec (i ≡ k) → getD (set (tab f n) k x) i 0 ≡ getD (tab g n) i 0
+    cell i q (yes e) = rw e (getD-set-same (tab f n) k x 0 (rw length-tab h) ∙ sym (getD-tab g n k h ∙ here))
+    cell i q (no e) = getD-set-other (tab f n) k i x 0 e ∙ getD-tab f n i q ∙ elsewhere i e ∙ sym (getD-tab g n i q)
 
 -- the cell (i, k) lies within a table of n rows of width w
 pub row-end : (i n w : ℕ) → i < n → i * w + w ≤ n * w

@@ -7,6 +7,7 @@ use native.Mathlib.Omega.{arith}
 use lib.ListN.{length, getD}
 use Rattle.base.specs.Range.{greatest}
 use Rattle.base.specs.Table.{tab}
+use Rattle.base.proofs.RangeLaws.{greatest-cong}
 use Rattle.base.proofs.TableLaws.{length-tab, getD-tab, tab-cong, getD-rows}
 use Rattle.base.proofs.PartLaws.{rows-of-cells}
 use Rattle.job.specs.Tree.{Tree, TreeWithin}
@@ -27,11 +28,6 @@ use Rattle.rows.specs.Closing.{slotIn}
 use Rattle.planner.specs.Work.{Ready, problemIn, lazyRowOf, lazyRowsOf, planRowsOf}
 
 -- ---- rows that agree up to the last slot
-
-greatest-cong : (f g : ℕ → ℕ) (n : ℕ) → ((i : ℕ) → i < n → f i ≡ g i) → greatest f n ≡ greatest g n
-unfolding greatest
-greatest-cong f g zero h = refl
-greatest-cong f g (suc n) h = rw (greatest-cong f g n (λ i q. h i (omega arith)), h n (omega arith))
 
 pub leastPeak-same : (H : ℕ) (l l′ u u′ : ℕ → ℕ) → ((k : ℕ) → k ≤ H → l k ≡ l′ k) → ((k : ℕ) → k ≤ H → u k ≡ u′ k)
     → leastPeak H l u ≡ leastPeak H l′ u′

@@ -38,6 +38,9 @@ extern "C" {
 #define RELAY_MOST_RATES 8
 #define RELAY_LINE_LENGTH 3
 
+/* How many children a byte store may have. */
+#define RELAY_MOST_CHILDREN 63
+
 /* The bytes of a job with n nodes and m frames, and the numbers of its plan. */
 #define RELAY_JOB_LENGTH(n, m) \
     (10 + 19 * ((size_t)(n) - 1) + 4 * (size_t)(m))
@@ -51,10 +54,10 @@ extern "C" {
     RELAY_PLAN_LENGTH(RELAY_MOST_NODES, RELAY_MOST_FRAMES + RELAY_LONGEST_DELAY)
 
 /*
- * The numbers that the functions below give. 0 is an answer, or a step that was
- * taken; 1 to 14 and 16 are refusals; 100 is no refusal: there is no further step.
- * Where several refusals apply the first is given: 1 to 10 of the job as it is, the
- * lowest first, and then those that the function lists, in the order of its list.
+ * The numbers that the functions below give. 0 is an answer, or a step or a call that
+ * was taken; 1 to 14 and 16 to 19 are refusals; 100 is no refusal: there is no further
+ * step. Where several refusals apply the first is given: 1 to 10 of the job as it is,
+ * the lowest first, and then those that the function lists, in the order of its list.
  */
 #define RELAY_ANSWERED 0
 #define RELAY_SHORT 1          /* fewer than 10 bytes */
@@ -76,6 +79,10 @@ extern "C" {
                                   or at the rate of a line */
 #define RELAY_BROKEN_RULE 14   /* a plan's column breaks a rule */
 #define RELAY_BAD_RATES 16     /* no rate, or more than 8 */
+#define RELAY_BAD_STORE 17     /* a byte store that no calls could leave, or that the
+                                  call doesn't fit */
+#define RELAY_NO_SPACE 18      /* more bytes are appended than are free */
+#define RELAY_NOT_WAITING 19   /* a child takes more than waits for it */
 #define RELAY_DONE 100         /* the slot number is H or later */
 
 /*
@@ -94,6 +101,7 @@ struct relay_limits {
     size_t tree_length;
     size_t most_rates;
     size_t line_length;
+    size_t most_children;
 };
 
 /* Gives the library's sizes. It refuses nothing. */
@@ -292,6 +300,73 @@ struct relay_step_answer relay_step(
     const uint64_t *plan, size_t plan_length,
     uint64_t *sent, size_t sent_length,
     uint64_t *held, size_t held_length);
+
+/*
+ * A byte store: what a box keeps of the stream that it hands on, in a slice of
+ * memory that the caller lends. It has up to RELAY_MOST_CHILDREN children, numbered
+ * from 0. Bytes are appended once, each child takes them in stream order at its own
+ * pace, and a byte's space is free once the last child has taken it. The struct holds
+ * numbers only: the slice's length, the child count, the place in the slice where the
+ * next byte is written, and how many bytes wait for each child. It may be copied, kept
+ * and moved like any struct; nobody but relay_store_append may write to the slice.
+ */
+struct relay_store {
+    size_t length;
+    size_t children;
+    size_t place;
+    size_t waiting[RELAY_MOST_CHILDREN];
+};
+
+/*
+ * Starts a store for a slice of `length` bytes and so many children, with nothing
+ * appended. The number is 0; or this one, and the struct is as it was:
+ *
+ *   17  `children` is above RELAY_MOST_CHILDREN
+ *
+ * `store` must point to a writable struct, which may hold anything. The call needs
+ * about 4 kB of stack, as the next two do.
+ */
+uint64_t relay_store_start(
+    struct relay_store *store,
+    size_t length, size_t children);
+
+/*
+ * Appends bytes to the stream: copies them into the slice from the place of the next
+ * byte on, round its end, and has them wait for every child. The number is 0, or the
+ * first of these, and the struct and the slice are as they were:
+ *
+ *   17  `slice_length` is not the length given at the start, the store has no
+ *       children, or no calls could leave such a store
+ *   18  `bytes_length` is more than the space that is free: the length less the most
+ *       that waits for some child
+ *
+ * `store` must point to a writable struct, `slice` to at least `slice_length` writable
+ * and `bytes` to at least `bytes_length` readable bytes, and none of the three may
+ * overlap another.
+ */
+uint64_t relay_store_append(
+    struct relay_store *store,
+    uint8_t *slice, size_t slice_length,
+    const uint8_t *bytes, size_t bytes_length);
+
+/*
+ * Gives a child the next `out_length` bytes of the stream: copies them from the slice
+ * to `out`, and they wait for it no longer. The number is 0, or the first of these,
+ * and the struct and `out` are as they were:
+ *
+ *   17  `slice_length` is not the length given at the start, `child` is not below the
+ *       child count, or no calls could leave such a store
+ *   19  `out_length` is more than waits for the child
+ *
+ * `store` must point to a writable struct, `slice` to at least `slice_length` readable
+ * and `out` to at least `out_length` writable bytes, and none of the three may overlap
+ * another.
+ */
+uint64_t relay_store_take(
+    struct relay_store *store,
+    const uint8_t *slice, size_t slice_length,
+    size_t child,
+    uint8_t *out, size_t out_length);
 
 #ifdef __cplusplus
 }

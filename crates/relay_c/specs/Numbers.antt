@@ -14,6 +14,7 @@ use Rattle.planner.specs.declared.Place.{Place}
 use Rattle.rates.specs.Answer as rates
 use Rattle.rates.specs.declared.Sizing.{Sizing}
 use Rattle.radio.specs.Answer.{mostRates, lineLength}
+use Rattle.store.specs.Store.{mostChildren}
 use Rattle.running.specs.Running as running
 use Rattle.running.specs.Running.{Stepped}
 use Rattle.running.specs.declared.Running.{Running}
@@ -43,6 +44,7 @@ limitNumbers x =
       «tree_length» = stateLength;
       «most_rates» = mostRates;
       «line_length» = lineLength;
+      «most_children» = mostChildren;
     }
 
 abbrev pub memoryNumbers : Answer → MemoryAnswer

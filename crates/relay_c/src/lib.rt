@@ -10,6 +10,7 @@ ghost use Rattle.planner.specs.declared.Answer as planner;
 ghost use Rattle.rates.specs.Answer.{Sizes};
 ghost use Rattle.rates.specs.declared.Sizing as rates;
 ghost use Rattle.radio.specs.Answer as radio;
+ghost use Rattle.store.specs.Store.{Starts, Appends, Takes};
 ghost use Rattle.writing.specs.PutBack.{Puts};
 ghost use Rattle.relay_c.specs.Numbers.{limitNumbers, memoryNumbers, rowNumbers, rateNumbers, stepNumbers};
 ghost use Rattle.relay_c.specs.Numbers.{stateLength, treeFrom, numberAt, StepSays};
@@ -19,6 +20,7 @@ use planner::Answer;
 use rates::Sizing;
 use running::Outcome;
 use running::Running;
+use store::Store;
 
 // How many numbers a running tree is in C: the slot number and a place for each node.
 const STATE: usize = Job::MOST_NODES + 1;
@@ -37,6 +39,7 @@ pub struct LibraryLimits {
     pub tree_length: usize,
     pub most_rates: usize,
     pub line_length: usize,
+    pub most_children: usize,
 }
 
 #[no_mangle]
@@ -56,6 +59,7 @@ pub extern "C" fn relay_library_limits() -> LibraryLimits
         tree_length: STATE,
         most_rates: radio::MOST_RATES,
         line_length: radio::LINE_LENGTH,
+        most_children: Store::MOST_CHILDREN,
     }
 }
 
@@ -249,4 +253,43 @@ pub extern "C" fn relay_step(
     let outcome = step.outcome;
     tree_into(next, tree);
     step_answer(outcome)
+}
+
+// A byte store that stands where C keeps it. It is copied out, given to the function of `store` by value, and the store of the answer is
+// written back: started, with the contract of `store::start`.
+#[no_mangle]
+pub extern "C" fn relay_store_start(store: &mut Store, length: usize, children: usize) -> u64
+    ensures { λ r. ⌜ Starts (now (store .entry)) length children r (now (store .exit)) ⌝ }
+{
+    let s = *store;
+    let r = store::start(s, length, children);
+    *store = r.store;
+    r.number
+}
+
+// Bytes appended to it, with the contract of `store::append`.
+#[no_mangle]
+pub extern "C" fn relay_store_append(store: &mut Store, slice: &mut [u8], bytes: &[u8]) -> u64
+    ensures { λ r. ⌜ Appends (now (store .entry)) (now (slice .entry)) (now (bytes .entry)) r (now (store .exit)) (now (slice .exit)) ⌝ }
+{
+    let s = *store;
+    let r = store::append(s, slice, bytes);
+    *store = r.store;
+    r.number
+}
+
+// Bytes taken by a child of it, with the contract of `store::take`.
+#[no_mangle]
+pub extern "C" fn relay_store_take(
+    store: &mut Store,
+    slice: &[u8],
+    child: usize,
+    out: &mut [u8],
+) -> u64
+    ensures { λ r. ⌜ Takes (now (store .entry)) (now (slice .entry)) child (now (out .entry)) r (now (store .exit)) (now (out .exit)) ⌝ }
+{
+    let s = *store;
+    let r = store::take(s, slice, child, out);
+    *store = r.store;
+    r.number
 }

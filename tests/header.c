@@ -113,6 +113,7 @@ static void sizes(void)
     expect("tree length", RELAY_TREE_LENGTH, limits.tree_length);
     expect("most rates", RELAY_MOST_RATES, limits.most_rates);
     expect("line length", RELAY_LINE_LENGTH, limits.line_length);
+    expect("most children", RELAY_MOST_CHILDREN, limits.most_children);
 }
 
 /* The same by what the library takes and what it refuses. */
@@ -536,6 +537,161 @@ static void refused_steps(void)
     refused_step("starved leaf", all, job, 3, RELAY_BROKEN_RULE, 2);
 }
 
+enum { SLICE = 5, COUNTS = RELAY_MOST_CHILDREN };
+
+static struct relay_store store;
+static uint8_t slice[SLICE + 1];
+
+/* A text of one byte each, as the library has them. */
+static const uint8_t *bytes_of(const char *text)
+{
+    return (const uint8_t *)text;
+}
+
+/* The store's numbers, of two children, and the slice, with a byte past it. */
+static void expect_store(const char *name, size_t place, size_t first, size_t second,
+                         const char *text)
+{
+    size_t i;
+
+    expect(name, SLICE, store.length);
+    expect(name, 2, store.children);
+    expect(name, place, store.place);
+    expect(name, first, store.waiting[0]);
+    expect(name, second, store.waiting[1]);
+    for (i = 2; i < COUNTS; i++) {
+        expect(name, 0, store.waiting[i]);
+    }
+    expect_bytes(name, bytes_of(text), slice, SLICE);
+    expect(name, '!', slice[SLICE]);
+}
+
+static void append(const char *text, size_t length, uint64_t number)
+{
+    expect(text, number,
+           relay_store_append(&store, slice, SLICE, bytes_of(text), length));
+}
+
+/* A take, and the byte past what is taken. */
+static void take(size_t child, const char *text, size_t length, uint64_t number)
+{
+    static const char untouched[] = "??????";
+    uint8_t out[SLICE + 2];
+
+    memset(out, '?', sizeof out);
+    expect(text, number,
+           relay_store_take(&store, slice, SLICE, child, out, length));
+    if (number != RELAY_ANSWERED) {
+        length = 0;
+    }
+    expect_bytes(text, bytes_of(text), out, length);
+    expect_bytes(text, bytes_of(untouched), out + length, SLICE + 1 - length);
+}
+
+/* A stream of nine bytes through a slice of five, for two children. */
+static void byte_store(void)
+{
+    memset(&store, 0xA5, sizeof store);
+    memcpy(slice, ".....!", sizeof slice);
+    expect("start", RELAY_ANSWERED, relay_store_start(&store, SLICE, 2));
+    expect_store("started", 0, 0, 0, ".....");
+    append("abc", 3, RELAY_ANSWERED);
+    take(0, "ab", 2, RELAY_ANSWERED);
+    expect_store("abc", 3, 1, 3, "abc..");
+    append("def", 3, RELAY_NO_SPACE);
+    take(0, "cd", 2, RELAY_NOT_WAITING);
+    take(2, "", 0, RELAY_BAD_STORE);
+    take(2, "c", 1, RELAY_BAD_STORE);
+    expect_store("refused", 3, 1, 3, "abc..");
+    append("de", 2, RELAY_ANSWERED);
+    append("f", 1, RELAY_NO_SPACE);
+    append("", 0, RELAY_ANSWERED);
+    expect_store("full", 0, 3, 5, "abcde");
+    take(1, "abcd", 4, RELAY_ANSWERED);
+    append("fg", 2, RELAY_ANSWERED);
+    expect_store("round the end", 2, 5, 3, "fgcde");
+    take(0, "cdefg", 5, RELAY_ANSWERED);
+    take(1, "ef", 2, RELAY_ANSWERED);
+    append("hi", 2, RELAY_ANSWERED);
+    take(1, "ghi", 3, RELAY_ANSWERED);
+    take(1, "", 0, RELAY_ANSWERED);
+    take(0, "hi", 2, RELAY_ANSWERED);
+    expect_store("all taken", 4, 0, 0, "fghie");
+}
+
+/* The store with one number changed, or in a slice of another length, is refused and as
+   it was, whatever else the call asks. */
+static void refused_store(const char *name, size_t *number, size_t changed,
+                          size_t slice_length)
+{
+    const struct relay_store good = store;
+    struct relay_store before;
+    uint8_t out[1] = { '?' };
+
+    *number = changed;
+    before = store;
+    expect(name, RELAY_BAD_STORE,
+           relay_store_append(&store, slice, slice_length, bytes_of("xyzxyz"), 6));
+    expect(name, RELAY_BAD_STORE,
+           relay_store_append(&store, slice, slice_length, bytes_of(""), 0));
+    expect(name, RELAY_BAD_STORE,
+           relay_store_take(&store, slice, slice_length, 0, out, 1));
+    expect(name, '?', out[0]);
+    expect(name, 0, (uint64_t)(memcmp(&before, &store, sizeof store) != 0));
+    store = good;
+    expect_store(name, 4, 0, 0, "fghie");
+}
+
+static void refused_stores(void)
+{
+    refused_store("short slice", &store.length, SLICE, SLICE - 1);
+    refused_store("long slice", &store.length, SLICE, SLICE + 1);
+    refused_store("no slice", &store.length, SLICE, 0);
+    refused_store("other length", &store.length, SLICE + 1, SLICE);
+    refused_store("place at the end", &store.place, SLICE, SLICE);
+    refused_store("greatest place", &store.place, SIZE_MAX, SLICE);
+    refused_store("no children", &store.children, 0, SLICE);
+    refused_store("many children", &store.children, COUNTS + 1, SLICE);
+    refused_store("much waits", &store.waiting[1], SLICE + 1, SLICE);
+    refused_store("absent child", &store.waiting[2], 1, SLICE);
+    refused_store("last absent child", &store.waiting[COUNTS - 1], 1, SLICE);
+}
+
+/* The child counts at their bounds, and a slice of no bytes. */
+static void store_starts(void)
+{
+    struct relay_store before;
+    uint8_t out[1];
+    size_t i;
+
+    memset(&before, 0xA5, sizeof before);
+    store = before;
+    expect("store of so many numbers", 3 + COUNTS, sizeof store / sizeof(size_t));
+    expect("too many children", RELAY_BAD_STORE,
+           relay_store_start(&store, 7, RELAY_MOST_CHILDREN + 1));
+    expect("too many children", 0,
+           (uint64_t)(memcmp(&before, &store, sizeof store) != 0));
+    expect("most children", RELAY_ANSWERED,
+           relay_store_start(&store, 7, RELAY_MOST_CHILDREN));
+    expect("most children", 7, store.length);
+    expect("most children", RELAY_MOST_CHILDREN, store.children);
+    expect("most children", 0, store.place);
+    for (i = 0; i < COUNTS; i++) {
+        expect("most children", 0, store.waiting[i]);
+    }
+
+    expect("no bytes", RELAY_ANSWERED, relay_store_start(&store, 0, 1));
+    expect("no bytes", RELAY_ANSWERED,
+           relay_store_append(&store, slice, 0, bytes_of("x"), 0));
+    expect("no bytes", RELAY_NO_SPACE,
+           relay_store_append(&store, slice, 0, bytes_of("x"), 1));
+    expect("no bytes", RELAY_ANSWERED,
+           relay_store_take(&store, slice, 0, 0, out, 0));
+    expect("no children", RELAY_ANSWERED, relay_store_start(&store, SLICE, 0));
+    expect("no children", RELAY_BAD_STORE,
+           relay_store_append(&store, slice, SLICE, bytes_of(""), 0));
+}
+
 int main(void)
 {
     sizes();
@@ -550,6 +706,9 @@ int main(void)
     put_back();
     run_to_the_end();
     refused_steps();
+    byte_store();
+    refused_stores();
+    store_starts();
 
     printf("header: %d passed, %d failed\n", passed, failed);
     return failed == 0 ? 0 : 1;

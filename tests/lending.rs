@@ -72,6 +72,13 @@ impl Lent<u8> {
         let shift = (bytes.len() + 5 * round) % 16;
         Lent::new(bytes, [0x00, 0xA5][round], shift)
     }
+
+    /// Bytes to be written over: each is another in the other round.
+    pub fn room(length: usize, round: usize) -> Self {
+        let byte = |at: usize| (at as u8).wrapping_mul(29) ^ [0x3C, 0xC3][round];
+        let bytes: Vec<u8> = (0..length).map(byte).collect();
+        Lent::bytes(&bytes, round)
+    }
 }
 
 impl Lent<u64> {

@@ -66,11 +66,15 @@ pub struct Row {
     pub length: usize,
 }
 
+/// The numbers of a byte store, all of which have 64 bits: its length, its children, its
+/// place and what waits for each child.
+pub const STORE_WORDS: usize = 3 + 63;
+
 /// The numbers of `relay_limits` in turn, all of which have 64 bits.
 #[repr(C)]
 struct Limits([u64; LIMITS]);
 
-pub const LIMITS: usize = 11;
+pub const LIMITS: usize = 12;
 
 extern "C" {
     fn relay_library_limits() -> Limits;
@@ -124,6 +128,25 @@ extern "C" {
         held: *mut u64,
         held_length: usize,
     ) -> StepNumbers;
+
+    fn relay_store_start(store: *mut u64, length: usize, children: usize) -> u64;
+
+    fn relay_store_append(
+        store: *mut u64,
+        slice: *mut u8,
+        slice_length: usize,
+        bytes: *const u8,
+        bytes_length: usize,
+    ) -> u64;
+
+    fn relay_store_take(
+        store: *mut u64,
+        slice: *const u8,
+        slice_length: usize,
+        child: usize,
+        out: *mut u8,
+        out_length: usize,
+    ) -> u64;
 }
 
 /// A buffer and the part of it that is lent.
@@ -238,4 +261,38 @@ pub fn step(
             held_length,
         )
     }
+}
+
+/// The start of a byte store, which is lent as its numbers.
+fn lend_store(store: Part<u64>) -> *mut u64 {
+    let (store, words) = lend(store);
+    assert_eq!(words, STORE_WORDS, "the numbers of a store");
+    store
+}
+
+/// The library's start of a store.
+pub fn store_start(store: Part<u64>, length: usize, children: usize) -> u64 {
+    let store = lend_store(store);
+    // SAFETY: the part lies within its buffer and is as long as a store.
+    unsafe { relay_store_start(store, length, children) }
+}
+
+/// The library's append. The bytes are lent mutably, so that a write can be seen.
+pub fn store_append(store: Part<u64>, slice: Part<u8>, bytes: Part<u8>) -> u64 {
+    let store = lend_store(store);
+    let (slice, slice_length) = lend(slice);
+    let (bytes, bytes_length) = lend(bytes);
+    // SAFETY: each part lies within its buffer, the first is as long as a store, and the
+    // buffers do not overlap, as each is lent mutably for the whole call.
+    unsafe { relay_store_append(store, slice, slice_length, bytes, bytes_length) }
+}
+
+/// The library's take. The slice is lent mutably for the same reason.
+pub fn store_take(store: Part<u64>, slice: Part<u8>, child: usize, out: Part<u8>) -> u64 {
+    let store = lend_store(store);
+    let (slice, slice_length) = lend(slice);
+    let (out, out_length) = lend(out);
+    // SAFETY: each part lies within its buffer, the first is as long as a store, and the
+    // buffers do not overlap, as each is lent mutably for the whole call.
+    unsafe { relay_store_take(store, slice, slice_length, child, out, out_length) }
 }

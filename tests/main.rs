@@ -40,6 +40,9 @@ mod sizing;
 mod steady;
 mod steady_brute;
 mod stepping;
+mod stores;
+mod storing;
+mod streams;
 mod trees;
 mod writer;
 
@@ -55,7 +58,7 @@ const fn entry<S: Section>() -> Entry {
     (S::GATE, S::STREAM, section::run::<S>)
 }
 
-const SECTIONS: [Entry; 8] = [
+const SECTIONS: [Entry; 9] = [
     entry::<reading::Reading>(),
     entry::<planning::Planning>(),
     entry::<running::Steps>(),
@@ -63,6 +66,7 @@ const SECTIONS: [Entry; 8] = [
     entry::<putting::Putting>(),
     entry::<rowing::Rows>(),
     entry::<sending::Sending>(),
+    entry::<storing::Storing>(),
     entry::<program::Program>(),
 ];
 

@@ -16,7 +16,8 @@ use crate::{edges, garbage, reader};
 
 /// The documents' limits in the header's order: the nodes, the frames, the longest
 /// delay, the greatest memory, rate and frame, the numbers of a running tree, the most
-/// constant rates of a call and the numbers of the line of each.
+/// constant rates of a call, the numbers of the line of each and the most children of a
+/// byte store.
 const DUE_LIMITS: [u64; LIMITS] = [
     2,
     64,
@@ -29,6 +30,7 @@ const DUE_LIMITS: [u64; LIMITS] = [
     65,
     8,
     3,
+    63,
 ];
 
 pub struct Reading;

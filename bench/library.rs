@@ -26,6 +26,16 @@ pub struct StepAnswer {
     pub link: u64,
 }
 
+/// A byte store's numbers.
+#[repr(C)]
+#[derive(Clone, Debug, PartialEq, Eq)]
+pub struct Store {
+    pub length: usize,
+    pub children: usize,
+    pub place: usize,
+    pub waiting: [usize; 63],
+}
+
 extern "C" {
     fn relay_memory_question(
         job: *const u8,
@@ -64,6 +74,25 @@ extern "C" {
         held: *mut u64,
         held_len: usize,
     ) -> StepAnswer;
+
+    fn relay_store_start(store: *mut Store, length: usize, children: usize) -> u64;
+
+    fn relay_store_append(
+        store: *mut Store,
+        slice: *mut u8,
+        slice_len: usize,
+        bytes: *const u8,
+        bytes_len: usize,
+    ) -> u64;
+
+    fn relay_store_take(
+        store: *mut Store,
+        slice: *const u8,
+        slice_len: usize,
+        child: usize,
+        out: *mut u8,
+        out_len: usize,
+    ) -> u64;
 }
 
 /// The memory question, answered by the library.
@@ -130,6 +159,41 @@ pub fn step(
             sent.len(),
             held.as_mut_ptr(),
             held.len(),
+        )
+    }
+}
+
+/// A byte store's start.
+pub fn store_start(store: &mut Store, length: usize, children: usize) -> u64 {
+    // SAFETY: the pointer is to a store as C has it.
+    unsafe { relay_store_start(store, length, children) }
+}
+
+/// Bytes appended to a store.
+pub fn store_append(store: &mut Store, slice: &mut [u8], bytes: &[u8]) -> u64 {
+    // SAFETY: each pointer to bytes comes with the length of the slice it was taken from.
+    unsafe {
+        relay_store_append(
+            store,
+            slice.as_mut_ptr(),
+            slice.len(),
+            bytes.as_ptr(),
+            bytes.len(),
+        )
+    }
+}
+
+/// Bytes taken from a store by a child.
+pub fn store_take(store: &mut Store, slice: &[u8], child: usize, out: &mut [u8]) -> u64 {
+    // SAFETY: each pointer to bytes comes with the length of the slice it was taken from.
+    unsafe {
+        relay_store_take(
+            store,
+            slice.as_ptr(),
+            slice.len(),
+            child,
+            out.as_mut_ptr(),
+            out.len(),
         )
     }
 }

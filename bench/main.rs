@@ -1,10 +1,11 @@
-//! Times the memory question, the rate question, constant rates and a step of the proved
-//! library against peers in Rust, on the same jobs, in turn, on one core. Only a disagreement
-//! between the two sides fails the run.
+//! Times the memory question, the rate question, constant rates, a step and the byte store of
+//! the proved library against peers in Rust, on the same jobs, in turn, on one core. Only a
+//! disagreement between the two sides fails the run.
 
 mod constant;
 mod constant_table;
 mod jobs;
+mod keeper;
 mod library;
 mod memory_table;
 mod only;
@@ -13,6 +14,7 @@ mod rate_table;
 mod sizer;
 mod step_table;
 mod stepper;
+mod store_table;
 mod timing;
 
 use std::process::ExitCode;
@@ -40,8 +42,9 @@ fn main() -> ExitCode {
         rate_table::print(),
         constant_table::print(),
         step_table::print(),
+        store_table::print(),
     ];
-    if agreed == [true; 4] {
+    if agreed == [true; 5] {
         ExitCode::SUCCESS
     } else {
         ExitCode::FAILURE

@@ -1,12 +1,14 @@
 //! One side alone, for a profiler.
 
 use crate::jobs::{Delays, Film, Shape};
-use crate::{constant_table, memory_table, rate_table, step_table};
+use crate::{constant_table, memory_table, rate_table, step_table, store_table};
 use std::time::{Duration, Instant};
 
 pub const USAGE: &str = "only library|peer QUESTION SHAPE NODES FRAMES
 QUESTION: spread or equal (delays of the memory question), scenes or alternating (films of the
-rate question), constant (8 constant rates) or step; SHAPE: as the tables have it";
+rate question), constant (8 constant rates) or step; SHAPE: as the tables have it
+only library|peer store CALL CHILDREN BYTES
+CALL: append, take or round";
 
 const LENGTH: Duration = Duration::from_secs(5);
 
@@ -18,8 +20,11 @@ fn question(arguments: &[String]) -> Option<Box<dyn FnMut()>> {
     if only != "only" || !library && side != "peer" {
         return None;
     }
-    let shape = Shape::named(shape)?;
     let size = (nodes.parse().ok()?, frames.parse().ok()?);
+    if question == "store" {
+        return store_table::alone(library, shape, size);
+    }
+    let shape = Shape::named(shape)?;
     match question.as_str() {
         "spread" => Some(memory_table::alone(library, Delays::Spread, shape, size)),
         "equal" => Some(memory_table::alone(library, Delays::Equal, shape, size)),

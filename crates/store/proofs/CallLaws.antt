@@ -20,91 +20,100 @@ past false e r some h = (refl, h)
 
 -- ---- an append
 
--- one that is answered
-pub record Appended (s : Store) (l bytes : List ℕ) (s′ : Store) (l′ : List ℕ) : Type 0 where
+-- where its number is 0
+pub record Appendable (s : Store) (long n : ℕ) : Type 0 where
   pub possible : Possible s
-  pub long : length l ≡ s .length
+  pub as-long : long ≡ s .length
   pub some : 0 < s .children
-  pub fits : length bytes ≤ free s
-  pub store-is : s′ ≡ appended s (length bytes)
-  pub slice-is : l′ ≡ written (s .place) l bytes
+  pub fits : n ≤ free s
 
+pub appendable : (s : Store) (long n : ℕ) → appendNumber s long n ≡ 0 → Appendable s long n
+unfolding appendNumber
+appendable s long n h =
+    let (bad, rest) = past _ badStore _ refl h in
+    let fit = unfit-facts s long (or-no-left _ _ bad) in
+    let none : s .children ≡ 0 → ⊥ = eqb-false (s .children) 0 (or-no-right (unfit s long) _ bad) in
+    let some : 0 < s .children = omega arith in
+    record { possible = fit .0; as-long = fit .1; some = some; fits = ltb-false _ _ (past _ noSpace 0 refl rest .0) }
+
+-- the number, by the checks
+pub append-bad : (s : Store) (long n : ℕ) → (unfit s long || eqb (s .children) 0) ≡ true → badStore ≡ appendNumber s long n
+unfolding appendNumber
+append-bad s long n h = rw h
+
+pub append-past : (s : Store) (long n : ℕ) → unfit s long ≡ false → 0 < s .children
+    → appendNumber s long n ≡ cond (ltb (free s) n) noSpace 0
+unfolding appendNumber
+append-past s long n fit some = rw (fit, ne-eqb (s .children) 0 (λ e. omega arith))
+
+-- what it leaves
 module _ (s : Store) (l bytes : List ℕ) (r : ℕ) (s′ : Store) (l′ : List ℕ) (h : Appends s l bytes r s′ l′) where
-  pub append-answered : eqb r 0 ≡ true → Appended s l bytes s′ l′
-  unfolding Appends appendNumber
-  append-answered e =
-      let (bad, rest) = past _ badStore _ refl (sym (h .0) ∙ eqb-true r 0 e) in
-      let (few, _) = past _ noSpace 0 refl rest in
-      let fit = unfit-facts s (length l) (or-no-left _ _ bad) in
-      let none : s .children ≡ 0 → ⊥ = eqb-false (s .children) 0 (or-no-right (unfit s (length l)) _ bad) in record {
-        possible = fit .0;
-        long = fit .1;
-        some = omega arith;
-        fits = ltb-false _ _ few;
-        store-is = h .1 .0 ∙ rw e;
-        slice-is = h .1 .1 ∙ rw e;
-      }
+  pub append-answered : eqb r 0 ≡ true
+      → Appendable s (length l) (length bytes) × ((s′ ≡ appended s (length bytes)) × (l′ ≡ written (s .place) l bytes))
+  unfolding Appends
+  append-answered e = (appendable s (length l) (length bytes) (sym (h .0) ∙ eqb-true r 0 e), (h .1 .0 ∙ rw e, h .1 .1 ∙ rw e))
 
   pub append-refused : eqb r 0 ≡ false → (s′ ≡ s) × (l′ ≡ l)
   unfolding Appends
   append-refused e = (h .1 .0 ∙ rw e, h .1 .1 ∙ rw e)
 
--- what is answered, and what is refused
-pub append-answers : (s : Store) (l bytes : List ℕ) → unfit s (length l) ≡ false → 0 < s .children → length bytes ≤ free s
-    → Appends s l bytes 0 (appended s (length bytes)) (written (s .place) l bytes)
-unfolding Appends appendNumber
-append-answers s l bytes fit some fits =
-    (rw (fit, ne-eqb (s .children) 0 (λ e. omega arith), le-ltb (free s) (length bytes) fits), (refl, refl))
+pub append-answers : (s : Store) (l bytes : List ℕ) (r : ℕ) → r ≡ appendNumber s (length l) (length bytes) → eqb r 0 ≡ true
+    → Appends s l bytes r (appended s (length bytes)) (written (s .place) l bytes)
+unfolding Appends
+append-answers s l bytes r h e = (h, (rw e, rw e))
 
-pub append-bad : (s : Store) (l bytes : List ℕ) → (unfit s (length l) || eqb (s .children) 0) ≡ true → Appends s l bytes badStore s l
-unfolding Appends appendNumber
-append-bad s l bytes h = (rw h, (refl, refl))
-
-pub append-full : (s : Store) (l bytes : List ℕ) → unfit s (length l) ≡ false → 0 < s .children → free s < length bytes
-    → Appends s l bytes noSpace s l
-unfolding Appends appendNumber
-append-full s l bytes fit some full = (rw (fit, ne-eqb (s .children) 0 (λ e. omega arith), lt-ltb (free s) (length bytes) full), (refl, refl))
+pub append-refuses : (s : Store) (l bytes : List ℕ) (r : ℕ) → r ≡ appendNumber s (length l) (length bytes) → eqb r 0 ≡ false
+    → Appends s l bytes r s l
+unfolding Appends
+append-refuses s l bytes r h e = (h, (rw e, rw e))
 
 -- ---- a take
 
--- one that is answered
-pub record Taken (s : Store) (l : List ℕ) (c : ℕ) (out : List ℕ) (s′ : Store) (out′ : List ℕ) : Type 0 where
+-- where its number is 0
+pub record Takeable (s : Store) (long c n : ℕ) : Type 0 where
   pub possible : Possible s
+  pub as-long : long ≡ s .length
   pub child : c < s .children
-  pub enough : length out ≤ waitingFor s c
-  pub store-is : s′ ≡ taken s c (length out)
-  pub out-is : out′ ≡ take (length out) (waitingBytes s l c)
+  pub enough : n ≤ waitingFor s c
 
+pub takeable : (s : Store) (long c n : ℕ) → takeNumber s long c n ≡ 0 → Takeable s long c n
+unfolding takeNumber
+takeable s long c n h =
+    let (bad, rest) = past _ badStore _ refl h in
+    let fit = unfit-facts s long (or-no-left _ _ bad) in record {
+      possible = fit .0;
+      as-long = fit .1;
+      child = ltb-true _ _ (not-false _ (or-no-right (unfit s long) _ bad));
+      enough = ltb-false _ _ (past _ notWaiting 0 refl rest .0);
+    }
+
+-- the number, by the checks
+pub take-bad : (s : Store) (long c n : ℕ) → (unfit s long || not (ltb c (s .children))) ≡ true → badStore ≡ takeNumber s long c n
+unfolding takeNumber
+take-bad s long c n h = rw h
+
+pub take-past : (s : Store) (long c n : ℕ) → unfit s long ≡ false → c < s .children
+    → takeNumber s long c n ≡ cond (ltb (waitingFor s c) n) notWaiting 0
+unfolding takeNumber
+take-past s long c n fit child = rw (fit, lt-ltb c (s .children) child)
+
+-- what it leaves
 module _ (s : Store) (l : List ℕ) (c : ℕ) (out : List ℕ) (r : ℕ) (s′ : Store) (out′ : List ℕ) (h : Takes s l c out r s′ out′) where
-  pub take-answered : eqb r 0 ≡ true → Taken s l c out s′ out′
-  unfolding Takes takeNumber
-  take-answered e =
-      let (bad, rest) = past _ badStore _ refl (sym (h .0) ∙ eqb-true r 0 e) in
-      let (few, _) = past _ notWaiting 0 refl rest in
-      record {
-        possible = unfit-facts s (length l) (or-no-left _ _ bad) .0;
-        child = ltb-true _ _ (not-false _ (or-no-right (unfit s (length l)) _ bad));
-        enough = ltb-false _ _ few;
-        store-is = h .1 .0 ∙ rw e;
-        out-is = h .1 .1 ∙ rw e;
-      }
+  pub take-answered : eqb r 0 ≡ true
+      → Takeable s (length l) c (length out) × ((s′ ≡ taken s c (length out)) × (out′ ≡ take (length out) (waitingBytes s l c)))
+  unfolding Takes
+  take-answered e = (takeable s (length l) c (length out) (sym (h .0) ∙ eqb-true r 0 e), (h .1 .0 ∙ rw e, h .1 .1 ∙ rw e))
 
   pub take-refused : eqb r 0 ≡ false → s′ ≡ s
   unfolding Takes
   take-refused e = h .1 .0 ∙ rw e
 
-pub take-answers : (s : Store) (l : List ℕ) (c : ℕ) (out : List ℕ) → unfit s (length l) ≡ false → c < s .children
-    → length out ≤ waitingFor s c → Takes s l c out 0 (taken s c (length out)) (take (length out) (waitingBytes s l c))
-unfolding Takes takeNumber
-take-answers s l c out fit child enough =
-    (rw (fit, lt-ltb c (s .children) child, le-ltb (waitingFor s c) (length out) enough), (refl, refl))
+pub take-answers : (s : Store) (l : List ℕ) (c : ℕ) (out : List ℕ) (r : ℕ) → r ≡ takeNumber s (length l) c (length out) → eqb r 0 ≡ true
+    → Takes s l c out r (taken s c (length out)) (take (length out) (waitingBytes s l c))
+unfolding Takes
+take-answers s l c out r h e = (h, (rw e, rw e))
 
-pub take-bad : (s : Store) (l : List ℕ) (c : ℕ) (out : List ℕ) → (unfit s (length l) || not (ltb c (s .children))) ≡ true
-    → Takes s l c out badStore s out
-unfolding Takes takeNumber
-take-bad s l c out h = (rw h, (refl, refl))
-
-pub take-few : (s : Store) (l : List ℕ) (c : ℕ) (out : List ℕ) → unfit s (length l) ≡ false → c < s .children
-    → waitingFor s c < length out → Takes s l c out notWaiting s out
-unfolding Takes takeNumber
-take-few s l c out fit child few = (rw (fit, lt-ltb c (s .children) child, lt-ltb (waitingFor s c) (length out) few), (refl, refl))
+pub take-refuses : (s : Store) (l : List ℕ) (c : ℕ) (out : List ℕ) (r : ℕ) → r ≡ takeNumber s (length l) c (length out) → eqb r 0 ≡ false
+    → Takes s l c out r s out
+unfolding Takes
+take-refuses s l c out r h e = (h, (rw e, rw e))

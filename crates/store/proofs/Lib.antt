@@ -1,6 +1,7 @@
 pub mod RoundLaws
 pub mod StoreLaws
 pub mod StretchLaws
+pub mod CountLaws
 pub mod CallLaws
 pub mod RunLaws
 pub mod ReachLaws

@@ -19,7 +19,7 @@ use Rattle.store.specs.Run.{Run, start, append, take as takes, Reachable
 use Rattle.store.specs.declared.Store.{Store}
 use Rattle.store.proofs.RoundLaws.{onward-near, onward-round, back-near, back-to, back-inside, onward-back}
 use Rattle.store.proofs.StoreLaws.{Possible, possible-facts, unfit-not, place-in, place-to, waiting-to}
-use Rattle.store.proofs.CallLaws.{append-answers, take-answers}
+use Rattle.store.proofs.CallLaws.{append-past, append-answers, take-past, take-answers}
 use Rattle.store.proofs.RunLaws.{Holds, run-holds}
 
 -- a store with other counts
@@ -61,7 +61,7 @@ module _ (m n : ℕ) where
     append-reached k some fits =
         let bytes = tab (λ i. 0) k in
         let size : length bytes ≡ k = length-tab (λ i. 0) k in
-        let answer = append-answers s (reached .slice) bytes fit (omega (arith, holds .children-is)) (rw size fits) in
+        let answer = append-answers s (reached .slice) bytes 0 (sym (append-past s _ _ fit (omega (arith, holds .children-is)) ∙ rw (size, le-ltb (free s) k fits))) refl in
         let after : Reached m n (appended s (length bytes)) = record {
           slice = written (s .place) (reached .slice) bytes;
           stream = _;
@@ -75,7 +75,7 @@ module _ (m n : ℕ) where
     take-reached c k child enough =
         let out = tab (λ i. 0) k in
         let size : length out ≡ k = length-tab (λ i. 0) k in
-        let answer = take-answers s (reached .slice) c out fit (omega (arith, holds .children-is)) (rw size enough) in
+        let answer = take-answers s (reached .slice) c out 0 (sym (take-past s _ c _ fit (omega (arith, holds .children-is)) ∙ rw (size, le-ltb (waitingFor s c) k enough))) refl in
         let after : Reached m n (taken s c (length out)) = record {
           slice = reached .slice;
           stream = _;

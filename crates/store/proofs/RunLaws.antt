@@ -17,7 +17,7 @@ use Rattle.base.proofs.TableLaws.{length-tab, getD-tab}
 use Rattle.store.specs.Store.{badStore, noSpace, notWaiting, mostChildren, waitingFor, waitingBytes, free, impossible, unfit, startNumber, appendNumber, takeNumber, started, appended, taken, written, Starts, Appends, Takes}
 use Rattle.store.specs.Run.{receivedBy, Run, start, append, take as takes, Serves}
 use Rattle.store.specs.declared.Store.{Store}
-use Rattle.store.proofs.CallLaws.{past, append-answered, append-refused, Taken, take-answered, take-refused}
+use Rattle.store.proofs.CallLaws.{past, append-answered, append-refused, Takeable, take-answered, take-refused}
 use Rattle.store.proofs.StoreLaws.{Possible, possible-is, append-possible, append-bytes, take-possible, take-other, take-bytes, length-waiting, none-waits}
 
 -- ---- what every call keeps
@@ -54,14 +54,14 @@ module _ (m n : ℕ) where
       where
         go : (eqb r 0 ≡ true) ⊎ (eqb r 0 ≡ false) → Holds m n s′ l′ (cond (eqb r 0) (stream ++ bytes) stream) received
         go (inl e) =
-            let a = append-answered s l bytes r s′ l′ h e in
-            rw (e, a .store-is, a .slice-is) (record {
+            let (a, (store-is, slice-is)) = append-answered s l bytes r s′ l′ h e in
+            rw (e, store-is, slice-is) (record {
               possible = append-possible s (a .possible) (a .some) (length bytes) (a .fits);
               counted = length-tab _ mostChildren;
               length-is = holds .length-is;
               children-is = holds .children-is;
               in-order = λ c k.
-                  rw (append-bytes s (a .possible) l bytes (a .long) (a .fits) c (omega (arith, holds .children-is)), ← append-assoc (received c) (waitingBytes s l c) bytes, holds .in-order c k);
+                  rw (append-bytes s (a .possible) l bytes (a .as-long) (a .fits) c (omega (arith, holds .children-is)), ← append-assoc (received c) (waitingBytes s l c) bytes, holds .in-order c k);
             })
         go (inr e) = let (same, unchanged) = append-refused s l bytes r s′ l′ h e in rw (e, same, unchanged) holds
 
@@ -69,25 +69,25 @@ module _ (m n : ℕ) where
         → Holds m n s′ l stream (cond (eqb r 0) (receivedBy received c out′) received)
     take-holds c out r s′ out′ h = go (true-or-false (eqb r 0))
       where
-        here : Taken s l c out s′ out′ → c < n → (received c ++ out′) ++ waitingBytes (taken s c (length out)) l c ≡ stream
-        here a k =
-            rw (a .out-is, take-bytes s (holds .counted) c (length out) (omega (arith, a .child, holds .possible .few)) l, append-assoc, take-append-drop)
+        here : Takeable s (length l) c (length out) → out′ ≡ take (length out) (waitingBytes s l c) → c < n → (received c ++ out′) ++ waitingBytes (taken s c (length out)) l c ≡ stream
+        here a out-is k =
+            rw (out-is, take-bytes s (holds .counted) c (length out) (omega (arith, a .child, holds .possible .few)) l, append-assoc, take-append-drop)
             (holds .in-order c k)
 
-        more : (a : Taken s l c out s′ out′) (d : ℕ) → d < n → Dec (d ≡ c) → receivedBy received c out′ d ++ waitingBytes (taken s c (length out)) l d ≡ stream
-        more a d k (yes e) = rw (e, eq-eqb c c refl) (here a (omega arith))
-        more a d k (no e) =
+        more : Takeable s (length l) c (length out) → out′ ≡ take (length out) (waitingBytes s l c) → (d : ℕ) → d < n → Dec (d ≡ c) → receivedBy received c out′ d ++ waitingBytes (taken s c (length out)) l d ≡ stream
+        more a out-is d k (yes e) = rw (e, eq-eqb c c refl) (here a out-is (omega arith))
+        more a out-is d k (no e) =
             rw (ne-eqb d c e, take-other s (holds .counted) c (length out) (omega (arith, a .child, holds .possible .few)) l d e) (holds .in-order d k)
 
         go : (eqb r 0 ≡ true) ⊎ (eqb r 0 ≡ false) → Holds m n s′ l stream (cond (eqb r 0) (receivedBy received c out′) received)
         go (inl e) =
-            let a = take-answered s l c out r s′ out′ h e in
-            rw (e, a .store-is) (record {
+            let (a, (store-is, out-is)) = take-answered s l c out r s′ out′ h e in
+            rw (e, store-is) (record {
               possible = take-possible s (holds .counted) c (length out) (omega (arith, a .child, holds .possible .few)) (holds .possible);
               counted = length-set (s .waiting) c _ ∙ holds .counted;
               length-is = holds .length-is;
               children-is = holds .children-is;
-              in-order = λ d k. more a d k (ℕ-discrete d c);
+              in-order = λ d k. more a out-is d k (ℕ-discrete d c);
             })
         go (inr e) = rw (e, take-refused s l c out r s′ out′ h e) holds
 

@@ -87,21 +87,6 @@ module _ (s : Store) where
 
 -- ---- an append
 
--- the counts with n bytes more for each of the first k children: what a loop over them has done
-abbrev pub countsTo : Store → ℕ → ℕ → List ℕ
-countsTo s n k = tab (λ c. waitingFor s c + cond (ltb c k) n 0) mostChildren
-
-pub counts-none : (s : Store) (n : ℕ) → length (s .waiting) ≡ mostChildren → s .waiting ≡ countsTo s n 0
-counts-none s n counted =
-    tab-of-list (s .waiting) mostChildren counted ∙ tab-cong (waitingFor s) _ mostChildren (λ c h. rw (le-ltb c 0 (omega arith)) (omega arith))
-
-pub counts-more : (s : Store) (n k : ℕ) → k < mostChildren → set (countsTo s n k) k (waitingFor s k + n) ≡ countsTo s n (k + 1)
-counts-more s n k h = tab-set _ _ mostChildren k _ h (rw (lt-ltb k (k + 1) (omega arith))) (λ c ne. other c ne (lt-or-le c k))
-  where
-    other : (c : ℕ) → (c ≡ k → ⊥) → (c < k) ⊎ (k ≤ c) → waitingFor s c + cond (ltb c k) n 0 ≡ waitingFor s c + cond (ltb c (k + 1)) n 0
-    other c ne (inl l) = rw (lt-ltb c k l, lt-ltb c (k + 1) (omega arith))
-    other c ne (inr l) = rw (le-ltb c k l, le-ltb c (k + 1) (omega arith))
-
 module _ (s : Store) (possible : Possible s) (some : 0 < s .children) (n : ℕ) (fits : n ≤ free s) where
   fits-all : n ≤ s .length
   fits-all = omega (arith, free-fits s possible n 0 fits some)

@@ -24,22 +24,22 @@ module _ (l r : List ℕ) (a e : ℕ) (from : a ≤ e) (to : e ≤ length l) (sa
   put-is : putMid a (e - a) l r ≡ take a l ++ (r ++ drop (a + (e - a)) l)
   put-is = let end : a + (e - a) ≡ e = omega arith in rw (post-is a e l from, end)
 
-  put-length : length (putMid a (e - a) l r) ≡ length l
+  pub put-length : length (putMid a (e - a) l r) ≡ length l
   put-length = same-len-mid a (e - a) l r (same ∙ sym (mid-len a e l to))
 
   put-before : (q : ℕ) → q < a → getD (putMid a (e - a) l r) q 0 ≡ getD l q 0
   put-before q h = rw put-is (part-before l r a (e - a) (omega arith) same q h)
 
-  put-inside : (q : ℕ) → a ≤ q → q < e → getD (putMid a (e - a) l r) q 0 ≡ getD r (q - a) 0
+  pub put-inside : (q : ℕ) → a ≤ q → q < e → getD (putMid a (e - a) l r) q 0 ≡ getD r (q - a) 0
   put-inside q h k =
       let here : a + (q - a) ≡ q = omega arith in
       rw put-is (rw here at (part-inside l r a (e - a) (omega arith) same (q - a) (omega arith)))
 
-  put-after : (q : ℕ) → e ≤ q → getD (putMid a (e - a) l r) q 0 ≡ getD l q 0
+  pub put-after : (q : ℕ) → e ≤ q → getD (putMid a (e - a) l r) q 0 ≡ getD l q 0
   put-after q h = rw put-is (part-after l r a (e - a) (omega arith) same q (omega arith))
 
 -- a stretch that is read
-mid-byte : (l : List ℕ) (a e i : ℕ) → i < e - a → getD (midOf a (e - a) l) i 0 ≡ getD l (a + i) 0
+pub mid-byte : (l : List ℕ) (a e i : ℕ) → i < e - a → getD (midOf a (e - a) l) i 0 ≡ getD l (a + i) 0
 mid-byte l a e i h = getD-take (e - a) (drop a l) i 0 h ∙ getD-drop a l i 0
 
 -- ---- written from place p on

@@ -35,6 +35,9 @@ back m p n = cond (ltb p n) (p + m - n) (p - n)
 
 -- ---- a store: the slice's length at the start, the child count, the place of the next byte, and how many bytes wait for each child
 
+abbrev pub storeOf : ℕ → ℕ → ℕ → List ℕ → Store
+storeOf long children place waiting = record { length = long; children = children; place = place; waiting = waiting }
+
 -- how many appended bytes child c hasn't taken
 abbrev pub waitingFor : Store → ℕ → ℕ
 waitingFor s c = getD (s .waiting) c 0
@@ -86,21 +89,17 @@ takeNumber s long c n =
 
 -- nothing is appended
 abbrev pub started : ℕ → ℕ → Store
-started long children = record { length = long; children = children; place = 0; waiting = tab (λ c. 0) mostChildren }
+started long children = storeOf long children 0 (tab (λ c. 0) mostChildren)
 
 -- n bytes more wait for each child
 abbrev pub appended : Store → ℕ → Store
 appended s n =
-    record {
-      length = s .length;
-      children = s .children;
-      place = onward (s .length) (s .place) n;
-      waiting = tab (λ c. waitingFor s c + cond (ltb c (s .children)) n 0) mostChildren;
-    }
+    storeOf (s .length) (s .children) (onward (s .length) (s .place) n)
+    (tab (λ c. waitingFor s c + cond (ltb c (s .children)) n 0) mostChildren)
 
 -- n bytes less wait for child c
 abbrev pub taken : Store → ℕ → ℕ → Store
-taken s c n = record { length = s .length; children = s .children; place = s .place; waiting = set (s .waiting) c (waitingFor s c - n) }
+taken s c n = storeOf (s .length) (s .children) (s .place) (set (s .waiting) c (waitingFor s c - n))
 
 -- the slice with bytes at the places from place p on, round the end
 unfoldable pub written : ℕ → List ℕ → List ℕ → List ℕ

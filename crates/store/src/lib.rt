@@ -1,14 +1,15 @@
 // A byte store over one lent slice: bytes are appended once, each child takes them in stream order at its own pace, and a byte's space
 // is free once the last child has taken it. A store is numbers only, handed back by value. It knows no job.
 // Definitions to believe: specs/Store, and specs/Run for calls in a row.
-ghost use mathlib.Core.Bool.{false};
+ghost use mathlib.Core.List.{List};
 ghost use mathlib.Core.Path.{_≡_};
-ghost use Prim.Native.Nat.{_≤_, _<_};
+ghost use Prim.Native.Nat.{ℕ, _+_, _^_, _≤_, _<_};
+ghost use lib.Dec.{ltb};
 ghost use lib.ListN.{length, getD};
-ghost use Rattle.base.specs.Range.{some, greatest};
+ghost use Rattle.base.specs.Range.{some};
 ghost use Rattle.base.specs.Table.{tab};
-ghost use Rattle.store.specs.Store.{mostChildren, onward, back, waitingFor, free, countWrong, placeWrong, impossible, unfit};
-ghost use Rattle.store.specs.Store.{appended, written, Starts, Appends, Takes};
+ghost use Rattle.store.specs.Store.{mostChildren, onward, back, storeOf, placeWrong, unfit, appendNumber, takeNumber};
+ghost use Rattle.store.specs.Store.{written, Starts, Appends, Takes};
 
 // The slice's length at the start, the child count, the place where the next byte is written, and how many bytes wait for each child.
 #[repr(C)]
@@ -35,69 +36,103 @@ pub struct Answer {
     pub number: u64,
 }
 
-// A refusal: the store stays as it was.
-fn refused(store: Store, number: u64) -> Answer
-    ensures { λ r. ⌜ r ≡ record { store = store; number = number } ⌝ }
+// Whether one of these counts is above `most`.
+fn some_above(counts: &[usize], most: usize) -> bool
+    ensures { λ r. ⌜ r ≡ some (λ i. ltb most (getD (now (counts .entry)) i 0)) (length (now (counts .entry))) ⌝ }
 {
-    Answer { store, number }
-}
-
-// Whether more waits for some child than the slice holds, or something waits for a child that the store hasn't got.
-fn some_count_wrong(store: Store) -> bool
-    ensures { λ r. ⌜ r ≡ some (countWrong store) mostChildren ⌝ }
-{
-    let mut c = 0;
-    while c < Store::MOST_CHILDREN {
-        let most = base::select_usize(c < store.children, store.length, 0);
-        if most < store.waiting[c] {
+    let mut i = 0;
+    while i < counts.len() {
+        if most < counts[i] {
             return true;
         }
-        c += 1;
+        i += 1;
     }
     false
 }
 
 // Whether bytes were appended, as the place isn't 0, and there is no child to append for, or the place isn't one of the slice.
-fn place_wrong(store: Store) -> bool
-    ensures { λ r. ⌜ r ≡ placeWrong store ⌝ }
+fn place_wrong(m: usize, children: usize, place: usize) -> bool
+    ensures { λ r. ⌜ ((w : List ℕ) → r ≡ placeWrong (storeOf m children place w)) ⌝ }
 {
-    if store.place == 0 {
+    if place == 0 {
         return false;
     }
-    if store.children == 0 {
+    if children == 0 {
         return true;
     }
-    store.length <= store.place
+    m <= place
 }
 
-// Whether the slice is not as long as at the start, or no calls could leave the store.
-fn unfit(store: Store, long: usize) -> bool
-    ensures { λ r. ⌜ r ≡ unfit store long ⌝ }
+// Whether the slice is not as long as at the start, m, or no calls could leave a store of these numbers.
+fn unfit(m: usize, children: usize, place: usize, waiting: &[usize], long: usize) -> bool
+    requires { ⌜ length (now waiting) ≡ mostChildren ⌝ }
+    ensures { λ r. ⌜ r ≡ unfit (storeOf m children place (now (waiting .entry))) long ⌝ }
 {
-    if long != store.length {
+    if long != m {
         return true;
     }
-    if Store::MOST_CHILDREN < store.children {
+    if Store::MOST_CHILDREN < children {
         return true;
     }
-    if place_wrong(store) {
+    if place_wrong(m, children, place) {
         return true;
     }
-    some_count_wrong(store)
+    if some_above(&waiting[0..children], m) {
+        return true;
+    }
+    some_above(&waiting[children..], 0)
 }
 
-// The most that waits for some child.
-fn most_waiting(store: Store) -> usize
-    requires { ⌜ store .children ≤ mostChildren ⌝ }
-    ensures { λ r. ⌜ r ≡ greatest (waitingFor store) (store .children) ⌝ }
+// The number of an append of n bytes to a store of these numbers and a slice of this length.
+fn append_number(
+    m: usize,
+    children: usize,
+    place: usize,
+    waiting: &[usize],
+    long: usize,
+    n: usize,
+) -> u64
+    requires { ⌜ length (now waiting) ≡ mostChildren ⌝ }
+    ensures { λ r. ⌜ r ≡ appendNumber (storeOf m children place (now (waiting .entry))) long n ⌝ }
 {
-    let mut most = 0;
-    let mut c = 0;
-    while c < store.children {
-        most = base::max_usize(most, store.waiting[c]);
-        c += 1;
+    if unfit(m, children, place, waiting, long) {
+        return Store::BAD_STORE;
     }
-    most
+    if children == 0 {
+        return Store::BAD_STORE;
+    }
+    if m < n {
+        return Store::NO_SPACE;
+    }
+    if some_above(&waiting[0..children], m - n) {
+        return Store::NO_SPACE;
+    }
+    0
+}
+
+// The number of a take of n bytes by a child.
+fn take_number(
+    m: usize,
+    children: usize,
+    place: usize,
+    waiting: &[usize],
+    long: usize,
+    child: usize,
+    n: usize,
+) -> u64
+    requires { ⌜ length (now waiting) ≡ mostChildren ⌝ }
+    ensures { λ r. ⌜ r ≡ takeNumber (storeOf m children place (now (waiting .entry))) long child n ⌝ }
+{
+    if unfit(m, children, place, waiting, long) {
+        return Store::BAD_STORE;
+    }
+    if children <= child {
+        return Store::BAD_STORE;
+    }
+    if waiting[child] < n {
+        return Store::NOT_WAITING;
+    }
+    0
 }
 
 // The place n after place p of m, round the end; no sum is made that could wrap.
@@ -122,19 +157,16 @@ fn back(m: usize, p: usize, n: usize) -> usize
     p - n
 }
 
-// The store with n bytes more.
-fn with_more(store: Store, n: usize) -> Store
-    requires { ⌜ (impossible store ≡ false) × ((0 < store .children) × (n ≤ free store)) ⌝ }
-    ensures { λ r. ⌜ r ≡ appended store n ⌝ }
+// Each count n higher.
+fn raise(counts: &mut [usize], n: usize)
+    requires { ⌜ ((c : ℕ) → c < length (now counts) → getD (now counts) c 0 + n < 2 ^ 64) ⌝ }
+    ensures { λ _. ⌜ now (counts .exit) ≡ tab (λ c. getD (now (counts .entry)) c 0 + n) (length (now (counts .entry))) ⌝ }
 {
-    let mut next = store;
-    next.place = onward(store.length, store.place, n);
     let mut c = 0;
-    while c < store.children {
-        next.waiting[c] = store.waiting[c] + n;
+    while c < counts.len() {
+        counts[c] = counts[c] + n;
         c += 1;
     }
-    next
 }
 
 // Copies a stretch of bytes.
@@ -176,7 +208,10 @@ pub fn start(store: Store, length: usize, children: usize) -> Answer
     ensures { λ r. ⌜ Starts store length children (r .number) (r .store) ⌝ }
 {
     if Store::MOST_CHILDREN < children {
-        return refused(store, Store::BAD_STORE);
+        return Answer {
+            store,
+            number: Store::BAD_STORE,
+        };
     }
     Answer {
         store: Store {
@@ -189,47 +224,55 @@ pub fn start(store: Store, length: usize, children: usize) -> Answer
     }
 }
 
-// Appends bytes to the stream where they fit into the space that is free.
+// Appends bytes to the stream where they fit into the space that is free. There is one way out, so that the store is copied but once on
+// its way through.
 pub fn append(store: Store, slice: &mut [u8], bytes: &[u8]) -> Answer
     ensures { λ r. ⌜ Appends store (now (slice .entry)) (now (bytes .entry)) (r .number) (r .store) (now (slice .exit)) ⌝ }
 {
-    if unfit(store, slice.len()) {
-        return refused(store, Store::BAD_STORE);
+    let length = store.length;
+    let children = store.children;
+    let mut place = store.place;
+    let mut waiting = store.waiting;
+    let number = append_number(length, children, place, &waiting, slice.len(), bytes.len());
+    if number == 0 {
+        write_round(place, slice, bytes);
+        place = onward(length, place, bytes.len());
+        raise(&mut waiting[0..children], bytes.len());
     }
-    if store.children == 0 {
-        return refused(store, Store::BAD_STORE);
-    }
-    if store.length - most_waiting(store) < bytes.len() {
-        return refused(store, Store::NO_SPACE);
-    }
-    write_round(store.place, slice, bytes);
     Answer {
-        store: with_more(store, bytes.len()),
-        number: 0,
+        store: Store {
+            length,
+            children,
+            place,
+            waiting,
+        },
+        number,
     }
 }
 
-// Gives child `child` the next bytes of the stream, as many as `out` is long, where so many wait for it.
+// Gives a child the next bytes of the stream, as many as `out` is long, where so many wait for it.
 pub fn take(store: Store, slice: &[u8], child: usize, out: &mut [u8]) -> Answer
     ensures { λ r. ⌜ Takes store (now (slice .entry)) child (now (out .entry)) (r .number) (r .store) (now (out .exit)) ⌝ }
 {
+    let length = store.length;
+    let children = store.children;
+    let place = store.place;
+    let mut waiting = store.waiting;
     let n = out.len();
-    if unfit(store, slice.len()) {
-        return refused(store, Store::BAD_STORE);
+    let number = take_number(length, children, place, &waiting, slice.len(), child, n);
+    if number == 0 {
+        let waits = waiting[child];
+        read_round(back(length, place, waits), slice, out);
+        let left = waits - n;
+        waiting[child] = left;
     }
-    if store.children <= child {
-        return refused(store, Store::BAD_STORE);
-    }
-    let waits = store.waiting[child];
-    if waits < n {
-        return refused(store, Store::NOT_WAITING);
-    }
-    read_round(back(store.length, store.place, waits), slice, out);
-    let left = waits - n;
-    let mut next = store;
-    next.waiting[child] = left;
     Answer {
-        store: next,
-        number: 0,
+        store: Store {
+            length,
+            children,
+            place,
+            waiting,
+        },
+        number,
     }
 }

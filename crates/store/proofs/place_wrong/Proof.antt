@@ -13,15 +13,15 @@ not-below a b (inl h) = rw (lt-leb b a h, lt-ltb a b h)
 not-below a b (inr h) = rw (le-leb b a h, le-ltb a b h)
 
 returns : tie.Need-returns
-returns c = rw (eq-eqb _ _ (c .if1 .taken))
+returns c w = rw (eq-eqb _ _ (c .if1 .taken))
 
 returns-2 : tie.Need-returns-2
-returns-2 c = rw (ne-eqb _ _ (c .before .before .if1 .left), eq-eqb _ _ (c .if2 .taken))
+returns-2 c w = rw (ne-eqb _ _ (c .before .if1 .left), eq-eqb _ _ (c .if2 .taken))
 
 returns-3 : tie.Need-returns-3
-returns-3 c =
-    let s = c .before .before .before .before .before .args .store in
-    rw (ne-eqb _ _ (c .before .before .before .if1 .left), ne-eqb _ _ (c .before .if2 .left)) (not-below (s .place) (s .length) (lt-or-le (s .place) (s .length)))
+returns-3 c w =
+    let a = c .before .before .args in
+    rw (ne-eqb _ _ (c .before .if1 .left), ne-eqb _ _ (c .if2 .left)) (not-below (a .place) (a .m) (lt-or-le (a .place) (a .m)))
 
 pub place-wrong-spec : {M : Type 1} → statement M
 place-wrong-spec = tie.close (tie.spec returns returns-2 returns-3)

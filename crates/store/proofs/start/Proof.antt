@@ -7,16 +7,13 @@ use borrow.Author.Needs.{needs}
 use Rattle.store.proofs.start.Statement.{statement}
 use Rattle.store.proofs.start.Tie as tie
 
-refused-requires : tie.Need-refused-requires
-refused-requires c κs = search needs
-
 returns : tie.Need-returns
 unfolding Starts startNumber
-returns c = rw (c .refused .ensures) (rw (lt-ltb _ _ (c .before .if1 .taken)) (refl, refl))
+returns c = rw (lt-ltb _ _ (c .if1 .taken)) (refl, refl)
 
 returns-2 : tie.Need-returns-2
 unfolding Starts startNumber tab
 returns-2 c = (rw (le-ltb _ _ (c .if1 .left)), refl)
 
 pub start-spec : {M : Type 1} → statement M
-start-spec = tie.close (tie.spec refused-requires returns returns-2)
+start-spec = tie.close (tie.spec returns returns-2)

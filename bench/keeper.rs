@@ -1,12 +1,22 @@
-//! A byte store again, written for speed alone and sharing no code with the library, whose
-//! struct it uses. Each call checks all of it here too.
+//! A byte store again, written for speed alone and sharing no code with the library. Each call
+//! checks all of it here too. It copies up to two stretches, by a loop over bytes or by the C
+//! library's memcpy.
+//!
+//! A crate of its own, as the compiler would put a call of memcpy in the place of such a loop
+//! too. It can't in the library, where nothing tells it that two slices are apart; so loops are
+//! held against loops, and the other peer tells what the call would save.
+#![no_builtins]
 
-use crate::library::Store;
+#[repr(C)]
+#[derive(Clone, Copy, Debug, PartialEq, Eq)]
+pub struct Store {
+    pub length: usize,
+    pub children: usize,
+    pub place: usize,
+    pub waiting: [usize; 63],
+}
 
-/// How bytes are copied: in up to two stretches, or one by one with a look for the end of the
-/// slice at each.
-pub const STRETCHES: bool = false;
-pub const ONE_BY_ONE: bool = true;
+type Copying = fn(&mut [u8], &[u8]);
 
 /// The most that waits for a child, of a store that calls could leave in such a slice.
 fn most_waiting(store: &Store, length: usize) -> Option<usize> {
@@ -19,9 +29,8 @@ fn most_waiting(store: &Store, length: usize) -> Option<usize> {
     sound.then_some(most)
 }
 
-/// Appends bytes.
-#[inline(never)]
-pub fn append<const COPYING: bool>(store: &mut Store, slice: &mut [u8], bytes: &[u8]) -> u64 {
+#[inline(always)]
+fn append_by(copying: Copying, store: &mut Store, slice: &mut [u8], bytes: &[u8]) -> u64 {
     let length = slice.len();
     let Some(most) = most_waiting(store, length) else {
         return 17;
@@ -33,18 +42,9 @@ pub fn append<const COPYING: bool>(store: &mut Store, slice: &mut [u8], bytes: &
         return 18;
     }
     let place = store.place;
-    let first = bytes.len().min(length - place);
-    if COPYING == ONE_BY_ONE {
-        let mut at = place;
-        for &byte in bytes {
-            slice[at] = byte;
-            at = if at + 1 == length { 0 } else { at + 1 };
-        }
-    } else {
-        let (one, two) = bytes.split_at(first);
-        slice[place..place + first].copy_from_slice(one);
-        slice[..two.len()].copy_from_slice(two);
-    }
+    let (one, two) = bytes.split_at(bytes.len().min(length - place));
+    copying(&mut slice[place..place + one.len()], one);
+    copying(&mut slice[..two.len()], two);
     let next = place + bytes.len();
     store.place = if next >= length { next - length } else { next };
     for waits in &mut store.waiting[..store.children] {
@@ -53,9 +53,9 @@ pub fn append<const COPYING: bool>(store: &mut Store, slice: &mut [u8], bytes: &
     0
 }
 
-/// Lets a child take bytes.
-#[inline(never)]
-pub fn take<const COPYING: bool>(
+#[inline(always)]
+fn take_by(
+    copying: Copying,
     store: &mut Store,
     slice: &[u8],
     child: usize,
@@ -73,18 +73,35 @@ pub fn take<const COPYING: bool>(
         Some(from) => from,
         None => store.place + length - waits,
     };
-    let first = out.len().min(length - from);
-    if COPYING == ONE_BY_ONE {
-        let mut at = from;
-        for byte in &mut *out {
-            *byte = slice[at];
-            at = if at + 1 == length { 0 } else { at + 1 };
-        }
-    } else {
-        let (one, two) = out.split_at_mut(first);
-        one.copy_from_slice(&slice[from..from + first]);
-        two.copy_from_slice(&slice[..two.len()]);
-    }
-    store.waiting[child] = waits - out.len();
+    let n = out.len();
+    let (one, two) = out.split_at_mut(n.min(length - from));
+    copying(one, &slice[from..from + one.len()]);
+    copying(two, &slice[..two.len()]);
+    store.waiting[child] = waits - n;
     0
+}
+
+#[inline(always)]
+fn byte_by_byte(to: &mut [u8], from: &[u8]) {
+    for (to, from) in to.iter_mut().zip(from) {
+        *to = *from;
+    }
+}
+
+/// Appends bytes.
+pub fn append(store: &mut Store, slice: &mut [u8], bytes: &[u8]) -> u64 {
+    append_by(byte_by_byte, store, slice, bytes)
+}
+
+pub fn append_by_memcpy(store: &mut Store, slice: &mut [u8], bytes: &[u8]) -> u64 {
+    append_by(<[u8]>::copy_from_slice, store, slice, bytes)
+}
+
+/// Lets a child take bytes.
+pub fn take(store: &mut Store, slice: &[u8], child: usize, out: &mut [u8]) -> u64 {
+    take_by(byte_by_byte, store, slice, child, out)
+}
+
+pub fn take_by_memcpy(store: &mut Store, slice: &[u8], child: usize, out: &mut [u8]) -> u64 {
+    take_by(<[u8]>::copy_from_slice, store, slice, child, out)
 }

@@ -1,5 +1,7 @@
 //! The proved library, through its C interface.
 
+use keeper::Store;
+
 #[repr(C)]
 #[derive(Clone, Copy, Debug, PartialEq, Eq)]
 pub struct Answer {
@@ -24,16 +26,6 @@ pub type Running = [u64; 65];
 pub struct StepAnswer {
     pub number: u64,
     pub link: u64,
-}
-
-/// A byte store's numbers.
-#[repr(C)]
-#[derive(Clone, Debug, PartialEq, Eq)]
-pub struct Store {
-    pub length: usize,
-    pub children: usize,
-    pub place: usize,
-    pub waiting: [usize; 63],
 }
 
 extern "C" {

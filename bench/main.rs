@@ -5,7 +5,6 @@
 mod constant;
 mod constant_table;
 mod jobs;
-mod keeper;
 mod library;
 mod memory_table;
 mod only;

@@ -1,8 +1,8 @@
 //! Rows of the byte store.
 
-use crate::keeper::{append, take, ONE_BY_ONE, STRETCHES};
-use crate::library::{store_append, store_start, store_take, Store};
+use crate::library::{store_append, store_start, store_take};
 use crate::timing::{best, seconds, Growth, Tally, Times, GROWTH};
+use keeper::Store;
 use std::hint::black_box;
 
 const BYTES: [usize; 3] = [64, 4_096, 65_536];
@@ -23,7 +23,7 @@ const CHILDREN_DOUBLE: [(usize, usize); 6] = [
     (32, 4_096),
     (63, 4_096),
 ];
-/// For this size, against the peer that copies stretches.
+/// For this size, against the peer that copies by loops.
 const BAR: f64 = 1.5;
 const BARRED: (usize, usize) = (8, 4_096);
 /// Rounds of calls that are compared: each goes on where the one before ended.
@@ -74,12 +74,12 @@ const LIBRARY: Side = Side {
     take: store_take,
 };
 const PEER: Side = Side {
-    append: append::<STRETCHES>,
-    take: take::<STRETCHES>,
+    append: keeper::append,
+    take: keeper::take,
 };
-const ONE_BY_ONE_PEER: Side = Side {
-    append: append::<ONE_BY_ONE>,
-    take: take::<ONE_BY_ONE>,
+const MEMCPY_PEER: Side = Side {
+    append: keeper::append_by_memcpy,
+    take: keeper::take_by_memcpy,
 };
 
 /// A store in a slice that four appends don't quite fill, so that the places differ and some
@@ -230,7 +230,7 @@ fn compared(timed: Timed, size: (usize, usize), peer: Side) -> Result<Times, Str
 }
 
 /// Prints a row, with the growth since the one before or else the ratio to the peer that
-/// copies bytes one by one.
+/// copies by memcpy.
 fn row(timed: Timed, size: (usize, usize), growth: Option<&mut Growth>, tally: &mut Tally) {
     let (children, bytes) = size;
     let label = format!("{:<6} {bytes:>6} {children:>8}", timed.name());
@@ -239,8 +239,8 @@ fn row(timed: Timed, size: (usize, usize), growth: Option<&mut Growth>, tally: &
         let more = match growth {
             Some(growth) => growth.since(work, times.library),
             None => {
-                let slow = compared(timed, size, ONE_BY_ONE_PEER)?;
-                format!(" {:>13.2}", slow.ratio())
+                let other = compared(timed, size, MEMCPY_PEER)?;
+                format!(" {:>13.2}", other.ratio())
             }
         };
         Ok((times, more))
@@ -269,7 +269,7 @@ fn heading(what: &str, growth: bool) {
         "library ns",
         "ns / work",
         "peer ns",
-        if growth { GROWTH } else { "    one by one" },
+        if growth { GROWTH } else { "     by memcpy" },
         "ratio",
         "bar"
     );
@@ -280,7 +280,7 @@ pub fn print() -> bool {
     let mut tally = Tally::new("byte store");
     heading(
         "the work of a call is its bytes and its children (a round: an append and a take by\n\
-         each child; one by one: the ratio to a peer that copies bytes so)",
+         each child; by memcpy: the ratio to a peer that copies so)",
         false,
     );
     for timed in [Timed::Append, Timed::Take] {

@@ -324,7 +324,7 @@ struct relay_store {
  *   17  `children` is above RELAY_MOST_CHILDREN
  *
  * `store` must point to a writable struct, which may hold anything. The call needs
- * about 4 kB of stack, as the next two do.
+ * about 1 kB of stack, as the next two do.
  */
 uint64_t relay_store_start(
     struct relay_store *store,

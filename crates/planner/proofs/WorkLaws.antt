@@ -5,7 +5,6 @@ use mathlib.Core.Path.{_≡_, refl, ap, _∙_}
 use Prim.Native.Nat.{ℕ, zero, suc, _+_, _-_, _*_, _≤_, _<_}
 use native.Mathlib.Omega.{arith}
 use lib.ListN.{length, getD}
-use Rattle.base.specs.Range.{greatest}
 use Rattle.base.specs.Table.{tab}
 use Rattle.base.proofs.RangeLaws.{greatest-cong}
 use Rattle.base.proofs.TableLaws.{length-tab, getD-tab, tab-cong, getD-rows}

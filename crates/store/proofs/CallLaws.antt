@@ -6,7 +6,7 @@ use Prim.Native.Nat.{ℕ, _≤_, _<_}
 use native.Mathlib.Omega.{arith}
 use lib.Dec.{eqb, ltb}
 use lib.ListN.{length, take}
-use borrow.Author.Tests.{eqb-true, eqb-false, ltb-true, ltb-false, not-false, ne-eqb, lt-ltb, le-ltb}
+use borrow.Author.Tests.{eqb-true, eqb-false, ltb-true, ltb-false, not-false, ne-eqb, lt-ltb}
 use Rattle.base.proofs.BoolLaws.{or-no-left, or-no-right}
 use Rattle.store.specs.Store.{badStore, noSpace, notWaiting, waitingFor, waitingBytes, free, unfit}
 use Rattle.store.specs.Store.{appendNumber, takeNumber, appended, taken, written, Appends, Takes}

@@ -2,7 +2,7 @@
 use mathlib.Core.Bool.{Bool, true, false, cond, _||_}
 use mathlib.Core.List.{List}
 use mathlib.Core.Path.{_≡_, refl, sym, _∙_}
-use mathlib.Core.Logic.{_⊎_, inl, inr, ⊎-elim}
+use mathlib.Core.Logic.{_⊎_, inl, inr}
 use Prim.Native.Nat.{ℕ, zero, suc, _+_, _-_, _≤_, _<_}
 use native.Mathlib.Nat.{add-zero, add-suc}
 use native.Mathlib.Omega.{arith}
@@ -14,7 +14,7 @@ use borrow.Rule.Slice.PartMut.{midOf, putMid, mid-len}
 use Rattle.base.specs.Range.{some, greatest}
 use Rattle.base.specs.Table.{tab}
 use Rattle.base.proofs.BoolLaws.{true-or-false, or-false, lt-or-le, iff-same}
-use Rattle.base.proofs.RangeLaws.{some-cong, some-passes, none-passes, which-passes, greatest-above, greatest-under}
+use Rattle.base.proofs.RangeLaws.{some-cong, none-passes, which-passes, greatest-above, greatest-under}
 use Rattle.base.proofs.TableLaws.{length-tab, getD-tab}
 use Rattle.store.specs.Store.{mostChildren, waitingFor, free, countWrong, appended}
 use Rattle.store.specs.declared.Store.{Store}

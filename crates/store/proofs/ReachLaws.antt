@@ -7,14 +7,14 @@ use mathlib.Core.Logic.{inl, inr, _⊎_, ⊎-elim}
 use Prim.Native.Nat.{ℕ, zero, suc, _+_, _-_, _≤_, _<_}
 use native.Mathlib.Omega.{arith}
 use lib.Dec.{ltb}
-use lib.ListN.{length, getD, set, take}
+use lib.ListN.{length, take}
 use borrow.Author.Tests.{lt-ltb, le-ltb}
 use Rattle.base.specs.Range.{greatest}
 use Rattle.base.specs.Table.{tab}
 use Rattle.base.proofs.BoolLaws.{lt-or-le}
 use Rattle.base.proofs.RangeLaws.{greatest-above, greatest-under}
 use Rattle.base.proofs.TableLaws.{length-tab, getD-tab, tab-cong, tab-of-list, tab-set}
-use Rattle.store.specs.Store.{mostChildren, onward, back, waitingFor, waitingBytes, free, impossible, unfit, startNumber, started, appended, taken, written, Starts}
+use Rattle.store.specs.Store.{mostChildren, onward, back, waitingFor, free, impossible, unfit, startNumber, started, appended, taken, written, Starts}
 use Rattle.store.specs.Run.{Run, start, append, take as takes, Reachable}
 use Rattle.store.specs.declared.Store.{Store}
 use Rattle.store.proofs.RoundLaws.{onward-near, onward-round, back-near, back-to, back-inside, onward-back}

@@ -1,5 +1,5 @@
 -- Laws of calls in a row: what holds after them, and that they leave no store that the definition calls impossible.
-use mathlib.Core.Bool.{Bool, true, false, cond, not, _||_}
+use mathlib.Core.Bool.{true, false, cond, not, _||_}
 use mathlib.Core.List.{List, [], _++_, append-assoc}
 use mathlib.Core.Path.{_≡_, refl, ap, sym, _∙_}
 use mathlib.Core.Logic.{inl, inr, _⊎_}
@@ -7,14 +7,13 @@ use Prim.Native.Nat.{ℕ, _+_, _-_, _≤_, _<_}
 use native.Mathlib.Decide.{ℕ-discrete}
 use native.Mathlib.Omega.{arith}
 use lib.Dec.{eqb, ltb}
-use lib.ListN.{length, getD, take, drop, length-append, length-set, take-append-drop}
-use borrow.Author.Tests.{eqb-true, ltb-false, ltb-true, not-false, eqb-false, eq-eqb, ne-eqb, lt-ltb, le-ltb}
+use lib.ListN.{length, take, length-append, length-set, take-append-drop}
+use borrow.Author.Tests.{ltb-false, ltb-true, eq-eqb, ne-eqb}
 use Rattle.base.specs.Range.{greatest}
-use Rattle.base.specs.Table.{tab}
-use Rattle.base.proofs.BoolLaws.{true-or-false, or-no-left, or-no-right, or-right, or-false}
+use Rattle.base.proofs.BoolLaws.{true-or-false, or-right, or-false}
 use Rattle.base.proofs.RangeLaws.{greatest-cong}
 use Rattle.base.proofs.TableLaws.{length-tab, getD-tab}
-use Rattle.store.specs.Store.{badStore, noSpace, notWaiting, mostChildren, waitingFor, waitingBytes, free, impossible, unfit, startNumber, appendNumber, takeNumber, started, appended, taken, written, Starts, Appends, Takes}
+use Rattle.store.specs.Store.{badStore, notWaiting, mostChildren, waitingFor, waitingBytes, free, impossible, unfit, startNumber, appendNumber, takeNumber, started, appended, taken, Starts, Appends, Takes}
 use Rattle.store.specs.Run.{receivedBy, Run, start, append, take as takes, Serves}
 use Rattle.store.specs.declared.Store.{Store}
 use Rattle.store.proofs.CallLaws.{past, append-answered, append-refused, Takeable, take-answered, take-refused}

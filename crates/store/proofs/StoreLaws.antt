@@ -1,20 +1,20 @@
 -- Laws of a store: what it is where calls could leave it, and what an append and a take make of it and of the bytes that wait.
-use mathlib.Core.Bool.{Bool, true, false, cond, not, _&&_, _||_}
+use mathlib.Core.Bool.{false, cond, not, _||_}
 use mathlib.Core.List.{List, [], _++_}
-use mathlib.Core.Path.{_≡_, refl, ap, sym, _∙_}
+use mathlib.Core.Path.{_≡_, refl, sym, _∙_}
 use mathlib.Core.Logic.{_⊎_, inl, inr, ⊎-elim}
 use Prim.Native.Nat.{ℕ, _+_, _-_, _≤_, _<_}
 use native.Mathlib.Decide.{ℕ-discrete}
 use native.Mathlib.Omega.{arith}
 use lib.Dec.{eqb, ltb}
-use lib.ListN.{length, getD, set, take, drop, length-append, length-drop, List·getD-append}
+use lib.ListN.{length, getD, take, drop, length-append, length-drop, List·getD-append}
 use lib.Seq.{getD-append-add, getD-take, getD-drop, length-take-le, getD-set-same, getD-set-other, ext-getD}
 use borrow.Author.Tests.{lt-ltb, le-ltb, ltb-false, ltb-true, eqb-true, eqb-false, eq-eqb, ne-eqb, not-false}
-use Rattle.base.specs.Range.{some, greatest}
+use Rattle.base.specs.Range.{some}
 use Rattle.base.specs.Table.{tab}
 use Rattle.base.proofs.BoolLaws.{and-no-right, or-no-left, or-no-right, lt-or-le}
 use Rattle.base.proofs.RangeLaws.{none-passes, all-fail, greatest-above, greatest-under}
-use Rattle.base.proofs.TableLaws.{length-tab, getD-tab, tab-cong, tab-of-list, tab-set}
+use Rattle.base.proofs.TableLaws.{length-tab, getD-tab}
 use Rattle.store.specs.Store.{mostChildren, onward, back, waitingFor, waitingBytes, free, countWrong, placeWrong, impossible, unfit, appended, taken, written}
 use Rattle.store.specs.declared.Store.{Store}
 use Rattle.store.proofs.RoundLaws.{onward-inside, onward-round, onward-back, back-inside, back-onward, back-less, after-onward, after-back}
@@ -26,7 +26,7 @@ pub record Possible (s : Store) : Type 0 where
   pub placed : (s .place ≡ 0) ⊎ ((0 < s .children) × (s .place < s .length))
   pub counts : (c : ℕ) → c < mostChildren → waitingFor s c ≤ cond (ltb c (s .children)) (s .length) 0
 
-place-facts : (s : Store) → placeWrong s ≡ false → (s .place ≡ 0) ⊎ ((0 < s .children) × (s .place < s .length))
+place-facts : (s : Store) → placeWrong (s .length) (s .children) (s .place) ≡ false → (s .place ≡ 0) ⊎ ((0 < s .children) × (s .place < s .length))
 place-facts s h = go (ℕ-discrete (s .place) 0)
   where
     go : Dec (s .place ≡ 0) → (s .place ≡ 0) ⊎ ((0 < s .children) × (s .place < s .length))
@@ -36,7 +36,7 @@ place-facts s h = go (ℕ-discrete (s .place) 0)
         let some : s .children ≡ 0 → ⊥ = eqb-false (s .children) 0 (or-no-left (eqb (s .children) 0) (not (ltb (s .place) (s .length))) k) in
         inr (omega arith, ltb-true _ _ (not-false _ (or-no-right (eqb (s .children) 0) _ k)))
 
-place-is : (s : Store) → (s .place ≡ 0) ⊎ ((0 < s .children) × (s .place < s .length)) → placeWrong s ≡ false
+place-is : (s : Store) → (s .place ≡ 0) ⊎ ((0 < s .children) × (s .place < s .length)) → placeWrong (s .length) (s .children) (s .place) ≡ false
 place-is s (inl e) = rw (eq-eqb (s .place) 0 e)
 place-is s (inr h) = rw (ne-eqb (s .children) 0 (λ e. omega arith), lt-ltb (s .place) (s .length) (h .1)) (and-no-right (not (eqb (s .place) 0)) {b = false} refl)
 
@@ -47,7 +47,7 @@ module _ (s : Store) where
       let rest = or-no-right (ltb mostChildren (s .children)) _ h in record {
         few = ltb-false _ _ (or-no-left _ _ h);
         placed = place-facts s (or-no-left _ _ rest);
-        counts = λ c l. ltb-false _ _ (none-passes (countWrong s) mostChildren (or-no-right (placeWrong s) _ rest) c l);
+        counts = λ c l. ltb-false _ _ (none-passes (countWrong s) mostChildren (or-no-right (placeWrong (s .length) (s .children) (s .place)) _ rest) c l);
       }
 
   pub possible-is : Possible s → impossible s ≡ false

@@ -9,7 +9,7 @@ use lib.Dec.{ltb}
 use lib.ListN.{length, getD, take, drop}
 use lib.Seq.{getD-take, getD-drop, ext-getD}
 use borrow.Author.Tests.{lt-ltb, le-ltb}
-use borrow.Rule.Slice.PartMut.{midOf, postOf, putMid, post-is, mid-len, same-len-mid}
+use borrow.Rule.Slice.PartMut.{midOf, putMid, post-is, mid-len, same-len-mid}
 use Rattle.base.specs.Table.{tab}
 use Rattle.base.proofs.BoolLaws.{lt-or-le}
 use Rattle.base.proofs.PartLaws.{part-before, part-inside, part-after}

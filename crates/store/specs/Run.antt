@@ -1,12 +1,12 @@
 -- Document 02, 'The box's byte store': calls in a row, each given the store and the slice that the one before left.
-use mathlib.Core.Bool.{false, cond, not, _||_}
+use mathlib.Core.Bool.{cond, not, _||_}
 use mathlib.Core.List.{List, [], _++_}
 use mathlib.Core.Path.{_≡_}
-use Prim.Native.Nat.{ℕ, _-_, _≤_, _<_}
+use Prim.Native.Nat.{ℕ, _-_, _<_}
 use lib.Dec.{eqb, ltb}
 use lib.ListN.{length}
 use Rattle.base.specs.Range.{greatest}
-use Rattle.store.specs.Store.{badStore, noSpace, notWaiting, mostChildren, waitingBytes, impossible, Starts, Appends, Takes}
+use Rattle.store.specs.Store.{badStore, noSpace, notWaiting, waitingBytes, Starts, Appends, Takes}
 use Rattle.store.specs.declared.Store.{Store}
 
 -- what child d has received after child c was given bytes
@@ -28,11 +28,11 @@ pub data Run (m n : ℕ) : Store → List ℕ → List ℕ → (ℕ → List ℕ
 pub record Serves (m n : ℕ) (s : Store) (l stream : List ℕ) (received : ℕ → List ℕ) : Type 0 where
   -- each child has received the stream in order, and what waits for it is the rest
   pub in-order : (c : ℕ) → c < n → received c ++ waitingBytes s l c ≡ stream
-  -- past 17 an append is refused just where its bytes don't fit in the length less the most that is appended and not received by some child
+  -- past 17 an append is refused just where its bytes are more than the length less the most that some child has yet to receive
   pub append-number : (bytes : List ℕ) (r : ℕ) (s′ : Store) (l′ : List ℕ) → Appends s l bytes r s′ l′
       → r ≡ cond (not (eqb (length l) m) || eqb n 0) badStore
       (cond (ltb (m - greatest (λ c. length stream - length (received c)) n) (length bytes)) noSpace 0)
-  -- and a take just where it asks for more than is appended and not received
+  -- and a take just where it asks for more than its child has yet to receive
   pub take-number : (c : ℕ) (out : List ℕ) (r : ℕ) (s′ : Store) (out′ : List ℕ) → Takes s l c out r s′ out′
       → r ≡ cond (not (eqb (length l) m) || not (ltb c n)) badStore
       (cond (ltb (length stream - length (received c)) (length out)) notWaiting 0)

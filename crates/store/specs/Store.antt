@@ -35,6 +35,7 @@ back m p n = cond (ltb p n) (p + m - n) (p - n)
 
 -- ---- a store: the slice's length at the start, the child count, the place of the next byte, and how many bytes wait for each child
 
+-- from these numbers
 abbrev pub storeOf : ℕ → ℕ → ℕ → List ℕ → Store
 storeOf long children place waiting = record { length = long; children = children; place = place; waiting = waiting }
 
@@ -55,12 +56,13 @@ abbrev pub countWrong : Store → ℕ → Bool
 countWrong s c = ltb (cond (ltb c (s .children)) (s .length) 0) (waitingFor s c)
 
 -- bytes were appended, as the place isn't 0, and there is no child to append for, or the place isn't one of the slice
-abbrev pub placeWrong : Store → Bool
-placeWrong s = not (eqb (s .place) 0) && (eqb (s .children) 0 || not (ltb (s .place) (s .length)))
+abbrev pub placeWrong : ℕ → ℕ → ℕ → Bool
+placeWrong long children place = not (eqb place 0) && (eqb children 0 || not (ltb place long))
 
 -- a store no calls could leave
 unfoldable pub impossible : Store → Bool
-impossible s = ltb mostChildren (s .children) || (placeWrong s || some (countWrong s) mostChildren)
+impossible s =
+    ltb mostChildren (s .children) || (placeWrong (s .length) (s .children) (s .place) || some (countWrong s) mostChildren)
 
 -- ---- the first check that applies, 0 where none does
 

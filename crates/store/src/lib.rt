@@ -1,7 +1,6 @@
 // A byte store over one lent slice: bytes are appended once, each child takes them in stream order at its own pace, and a byte's space
 // is free once the last child has taken it. A store is numbers only, handed back by value. It knows no job.
 // Definitions to believe: specs/Store, and specs/Run for calls in a row.
-ghost use mathlib.Core.List.{List};
 ghost use mathlib.Core.Path.{_≡_};
 ghost use Prim.Native.Nat.{ℕ, _+_, _^_, _≤_, _<_};
 ghost use lib.Dec.{ltb};
@@ -50,9 +49,9 @@ fn some_above(counts: &[usize], most: usize) -> bool
     false
 }
 
-// Whether bytes were appended, as the place isn't 0, and there is no child to append for, or the place isn't one of the slice.
+// Whether the place isn't 0, and there is no child to append for or it isn't a place of the slice, which is m bytes long.
 fn place_wrong(m: usize, children: usize, place: usize) -> bool
-    ensures { λ r. ⌜ ((w : List ℕ) → r ≡ placeWrong (storeOf m children place w)) ⌝ }
+    ensures { λ r. ⌜ r ≡ placeWrong m children place ⌝ }
 {
     if place == 0 {
         return false;
@@ -63,7 +62,8 @@ fn place_wrong(m: usize, children: usize, place: usize) -> bool
     m <= place
 }
 
-// Whether the slice is not as long as at the start, m, or no calls could leave a store of these numbers.
+// Whether the slice is not as long as at the start, m, or no calls could leave a store of these numbers. They are passed apart, and the
+// counts lent: a store by value would be copied for each test.
 fn unfit(m: usize, children: usize, place: usize, waiting: &[usize], long: usize) -> bool
     requires { ⌜ length (now waiting) ≡ mostChildren ⌝ }
     ensures { λ r. ⌜ r ≡ unfit (storeOf m children place (now (waiting .entry))) long ⌝ }
@@ -224,8 +224,8 @@ pub fn start(store: Store, length: usize, children: usize) -> Answer
     }
 }
 
-// Appends bytes to the stream where they fit into the space that is free. There is one way out, so that the store is copied but once on
-// its way through.
+// Appends bytes to the stream where they fit into the space that is free. All numbers have one way out, as each further one would copy
+// the store once more.
 pub fn append(store: Store, slice: &mut [u8], bytes: &[u8]) -> Answer
     ensures { λ r. ⌜ Appends store (now (slice .entry)) (now (bytes .entry)) (r .number) (r .store) (now (slice .exit)) ⌝ }
 {

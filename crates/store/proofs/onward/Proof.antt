@@ -2,7 +2,7 @@ use native.Mathlib.Omega.{arith}
 use borrow.Author.Needs.{needs}
 use Rattle.store.proofs.onward.Statement.{statement}
 use Rattle.store.proofs.onward.Tie as tie
-use mathlib.Core.Path.{sym, _∙_}
+use mathlib.Core.Path.{sym}
 use Rattle.store.proofs.RoundLaws.{onward-near, onward-round}
 
 sub-if1 : tie.Need-sub-if1

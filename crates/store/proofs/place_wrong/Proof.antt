@@ -13,13 +13,13 @@ not-below a b (inl h) = rw (lt-leb b a h, lt-ltb a b h)
 not-below a b (inr h) = rw (le-leb b a h, le-ltb a b h)
 
 returns : tie.Need-returns
-returns c w = rw (eq-eqb _ _ (c .if1 .taken))
+returns c = rw (eq-eqb _ _ (c .if1 .taken))
 
 returns-2 : tie.Need-returns-2
-returns-2 c w = rw (ne-eqb _ _ (c .before .if1 .left), eq-eqb _ _ (c .if2 .taken))
+returns-2 c = rw (ne-eqb _ _ (c .before .if1 .left), eq-eqb _ _ (c .if2 .taken))
 
 returns-3 : tie.Need-returns-3
-returns-3 c w =
+returns-3 c =
     let a = c .before .before .args in
     rw (ne-eqb _ _ (c .before .if1 .left), ne-eqb _ _ (c .if2 .left)) (not-below (a .place) (a .m) (lt-or-le (a .place) (a .m)))
 

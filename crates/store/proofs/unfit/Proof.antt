@@ -23,7 +23,7 @@ counts-left c =
     rw (
       eq-eqb _ _ (past .before .if1 .left),
       le-ltb mostChildren (st .args .children) (past .if2 .left),
-      sym (c .before .place-wrong .ensures (st .args .waiting .now)) ∙ c .if3 .left,
+      sym (c .before .place-wrong .ensures) ∙ c .if3 .left,
     )
 
 returns : tie.Need-returns
@@ -41,8 +41,7 @@ returns-3 : tie.Need-returns-3
 unfolding unfit impossible
 returns-3 c =
     let past = c .before .before in
-    let st = past .before .before .before in
-    rw (eq-eqb _ _ (past .before .if1 .left), le-ltb _ _ (past .if2 .left), sym (c .before .place-wrong .ensures (st .args .waiting .now)) ∙ c .if3 .taken)
+    rw (eq-eqb _ _ (past .before .if1 .left), le-ltb _ _ (past .if2 .left), sym (c .before .place-wrong .ensures) ∙ c .if3 .taken)
 
 sub-some-above : tie.Need-sub-some-above
 sub-some-above c = search needs

@@ -1,4 +1,3 @@
-use native.Mathlib.Omega.{arith}
 use borrow.Author.Needs.{needs}
 use Rattle.store.proofs.StretchLaws.{write-stretches}
 use Rattle.store.proofs.write_round.Statement.{statement}

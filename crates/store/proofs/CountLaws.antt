@@ -104,12 +104,19 @@ module _ (s : Store) (possible : Possible s) (n : ℕ) where
 
   pub full-is : n ≤ s .length → ltb (free s) n ≡ some above (s .children)
   unfolding free
-  full-is h = iff-same (ltb left n) (some above (s .children)) (λ e. found (ltb-true left n e) (true-or-false (some above (s .children)))) (λ e.
+  full-is h =
+      iff-same (ltb left n) (some above (s .children)) (λ e. found (ltb-true left n e) (true-or-false (some above (s .children)))) (λ e.
       let (c, l, t) = which-passes above (s .children) e in
-      lt-ltb left n (omega (arith, ltb-true (s .length - n) (waitingFor s c) t, greatest-above (waitingFor s) (s .children) c l, waiting-to s possible c l)))
+      lt-ltb left n (omega (
+        arith,
+        ltb-true (s .length - n) (waitingFor s c) t,
+        greatest-above (waitingFor s) (s .children) c l,
+        waiting-to s possible c l,
+      )))
     where
       found : left < n → (some above (s .children) ≡ true) ⊎ (some above (s .children) ≡ false) → some above (s .children) ≡ true
       found e (inl t) = t
       found e (inr f) =
-          let under = greatest-under (waitingFor s) (s .children) (s .length - n) (λ c l. ltb-false (s .length - n) (waitingFor s c) (none-passes above (s .children) f c l)) in
+          let under = greatest-under (waitingFor s) (s .children) (s .length - n)
+          (λ c l. ltb-false (s .length - n) (waitingFor s c) (none-passes above (s .children) f c l)) in
           absurd (omega arith)

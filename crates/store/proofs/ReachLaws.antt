@@ -14,7 +14,8 @@ use Rattle.base.specs.Table.{tab}
 use Rattle.base.proofs.BoolLaws.{lt-or-le}
 use Rattle.base.proofs.RangeLaws.{greatest-above, greatest-under}
 use Rattle.base.proofs.TableLaws.{length-tab, getD-tab, tab-cong, tab-of-list, tab-set}
-use Rattle.store.specs.Store.{mostChildren, onward, back, waitingFor, free, impossible, unfit, startNumber, started, appended, taken, written, Starts}
+use Rattle.store.specs.Store.{mostChildren, onward, back, waitingFor, free, impossible, unfit, startNumber, started, appended}
+use Rattle.store.specs.Store.{taken, written, Starts}
 use Rattle.store.specs.Run.{Run, start, append, take as takes, Reachable}
 use Rattle.store.specs.declared.Store.{Store}
 use Rattle.store.proofs.RoundLaws.{onward-near, onward-round, back-near, back-to, back-inside, onward-back}
@@ -61,7 +62,8 @@ module _ (m n : ℕ) where
     append-reached k some fits =
         let bytes = tab (λ i. 0) k in
         let size : length bytes ≡ k = length-tab (λ i. 0) k in
-        let answer = append-answers s (reached .slice) bytes 0 (sym (append-past s _ _ fit (omega (arith, holds .children-is)) ∙ rw (size, le-ltb (free s) k fits))) refl in
+        let answer = append-answers s (reached .slice) bytes 0
+        (sym (append-past s _ _ fit (omega (arith, holds .children-is)) ∙ rw (size, le-ltb (free s) k fits))) refl in
         let after : Reached m n (appended s (length bytes)) = record {
           slice = written (s .place) (reached .slice) bytes;
           stream = _;
@@ -75,7 +77,8 @@ module _ (m n : ℕ) where
     take-reached c k child enough =
         let out = tab (λ i. 0) k in
         let size : length out ≡ k = length-tab (λ i. 0) k in
-        let answer = take-answers s (reached .slice) c out 0 (sym (take-past s _ c _ fit (omega (arith, holds .children-is)) ∙ rw (size, le-ltb (waitingFor s c) k enough))) refl in
+        let answer = take-answers s (reached .slice) c out 0
+        (sym (take-past s _ c _ fit (omega (arith, holds .children-is)) ∙ rw (size, le-ltb (waitingFor s c) k enough))) refl in
         let after : Reached m n (taken s c (length out)) = record {
           slice = reached .slice;
           stream = _;
@@ -100,15 +103,18 @@ module _ (m n : ℕ) where
       subst (Reached m n) (ap (with-counts s) next) after
     where
       waits : waitingFor (less s f k) k ≡ waitingFor s k
-      waits = getD-tab (λ c. waitingFor s c - cond (ltb c k) (f c) 0) mostChildren k (omega arith) ∙ rw (le-ltb k k (omega arith)) (omega arith)
+      waits =
+          getD-tab (λ c. waitingFor s c - cond (ltb c k) (f c) 0) mostChildren k (omega arith) ∙ rw (le-ltb k k (omega arith)) (omega arith)
 
-      other : (c : ℕ) → (c ≡ k → ⊥) → (c < k) ⊎ (k ≤ c) → waitingFor s c - cond (ltb c k) (f c) 0 ≡ waitingFor s c - cond (ltb c (suc k)) (f c) 0
+      other : (c : ℕ) → (c ≡ k → ⊥) → (c < k) ⊎ (k ≤ c)
+          → waitingFor s c - cond (ltb c k) (f c) 0 ≡ waitingFor s c - cond (ltb c (suc k)) (f c) 0
       other c ne (inl h) = rw (lt-ltb c k h, lt-ltb c (suc k) (omega arith))
       other c ne (inr h) = rw (le-ltb c k h, le-ltb c (suc k) (omega arith))
 
       next : taken (less s f k) k (f k) .waiting ≡ less s f (suc k) .waiting
       next =
-          tab-set _ _ mostChildren k _ (omega arith) (rw (lt-ltb k (suc k) (omega arith)) (ap (λ (w : ℕ). w - f k) (sym waits))) (λ c ne. other c ne (lt-or-le c k))
+          tab-set _ _ mostChildren k _ (omega arith) (rw (lt-ltb k (suc k) (omega arith)) (ap (λ (w : ℕ). w - f k) (sym waits)))
+          (λ c ne. other c ne (lt-or-le c k))
 
   -- an append of k bytes where nothing waits, and takes by all children
   module _ (s : Store) (few : n ≤ mostChildren) (none : (c : ℕ) → c < mostChildren → waitingFor s c ≡ 0) (reached : Reached m n s) (k : ℕ)
@@ -130,7 +136,8 @@ module _ (m n : ℕ) where
     stage : 0 < n → k ≤ m → ((c : ℕ) → c < n → f c ≤ k) → Reached m n (less (appended s k) f n)
     unfolding free
     stage some fits each =
-        let empty = greatest-under (waitingFor s) (s .children) 0 (λ c h. omega (arith, none c (omega (arith, few, holds s reached .children-is)))) in
+        let empty = greatest-under (waitingFor s) (s .children) 0
+        (λ c h. omega (arith, none c (omega (arith, few, holds s reached .children-is)))) in
         takes-reached (appended s k) f n (omega arith) few
         (λ c h. let here : waitingFor (appended s k) c ≡ k = more c (omega arith) ∙ rw (lt-ltb c n h) in omega (arith, here, each c h))
         (append-reached s reached k some (omega (arith, empty, holds s reached .length-is)))
@@ -185,7 +192,8 @@ module _ (s : Store) (counted : length (s .waiting) ≡ mostChildren) (possible 
           let inside : s .place < m = place-in s possible h in
           let near : onward m 0 oldest ≡ oldest =
           onward-near m 0 oldest (omega (arith, back-inside m (s .place) inside most most-to)) ∙ omega arith in
-          rw near (onward-back m (s .place) inside most most (omega arith) most-to ∙ back-near m (s .place) (most - most) (omega arith) ∙ omega arith)
+          rw near (onward-back m (s .place) inside most most (omega arith) most-to
+          ∙ back-near m (s .place) (most - most) (omega arith) ∙ omega arith)
       go (inr h) =
           let at-0 : s .place ≡ 0 = omega (arith, place-to s possible) in
           omega (
@@ -210,11 +218,13 @@ module _ (s : Store) (counted : length (s .waiting) ≡ mostChildren) (possible 
   reached-some : 0 < n → Reached m n s
   reached-some some =
       let inside : oldest ≤ m = back-to m (s .place) most (place-to s possible) most-to in
-      let midway : Reached m n drained = stage m n (started m n) (possible .few) empty began oldest (λ c. oldest) some inside (λ c h. omega arith) in
+      let midway : Reached m n drained = stage m n (started m n) (possible .few) empty began oldest (λ c. oldest) some inside
+      (λ c h. omega arith) in
       let after : Reached m n filled =
       stage m n drained (possible .few) drained-empty midway most (λ c. most - waitingFor s c) some most-to (λ c h. omega arith) in
       subst (Reached m n)
-      (ap (λ (p : ℕ). record { length = m; children = n; place = p; waiting = filled .waiting }) place-is ∙ ap (with-counts s) (counts-are midway))
+      (ap (λ (p : ℕ). record { length = m; children = n; place = p; waiting = filled .waiting }) place-is
+      ∙ ap (with-counts s) (counts-are midway))
       after
 
   reached-none : n ≡ 0 → Reached m n s
@@ -235,5 +245,6 @@ pub possible-reachable : (s : Store) → length (s .waiting) ≡ mostChildren �
 possible-reachable s counted h =
     let possible = possible-facts s h in
     let reached : Reached (s .length) (s .children) s =
-    ⊎-elim (λ some. reached-some s counted possible some) (λ none. reached-none s counted possible (omega arith)) (lt-or-le 0 (s .children)) in
+    ⊎-elim (λ some. reached-some s counted possible some) (λ none. reached-none s counted possible (omega arith))
+    (lt-or-le 0 (s .children)) in
     (s .length, s .children, reached .slice, reached .stream, reached .received, reached .run)

@@ -13,11 +13,13 @@ use Rattle.base.specs.Range.{greatest}
 use Rattle.base.proofs.BoolLaws.{true-or-false, or-right, or-false}
 use Rattle.base.proofs.RangeLaws.{greatest-cong}
 use Rattle.base.proofs.TableLaws.{length-tab, getD-tab}
-use Rattle.store.specs.Store.{badStore, notWaiting, mostChildren, waitingFor, waitingBytes, free, impossible, unfit, startNumber, appendNumber, takeNumber, started, appended, taken, Starts, Appends, Takes}
+use Rattle.store.specs.Store.{badStore, notWaiting, mostChildren, waitingFor, waitingBytes, free, impossible, unfit, startNumber}
+use Rattle.store.specs.Store.{appendNumber, takeNumber, started, appended, taken, Starts, Appends, Takes}
 use Rattle.store.specs.Run.{receivedBy, Run, start, append, take as takes, Serves}
 use Rattle.store.specs.declared.Store.{Store}
 use Rattle.store.proofs.CallLaws.{past, append-answered, append-refused, Takeable, take-answered, take-refused}
-use Rattle.store.proofs.StoreLaws.{Possible, possible-is, append-possible, append-bytes, take-possible, take-other, take-bytes, length-waiting, none-waits}
+use Rattle.store.proofs.StoreLaws.{Possible, possible-is, append-possible, append-bytes, take-possible, take-other, take-bytes}
+use Rattle.store.proofs.StoreLaws.{length-waiting, none-waits}
 
 -- ---- what every call keeps
 
@@ -60,7 +62,11 @@ module _ (m n : ℕ) where
               length-is = holds .length-is;
               children-is = holds .children-is;
               in-order = λ c k.
-                  rw (append-bytes s (a .possible) l bytes (a .as-long) (a .fits) c (omega (arith, holds .children-is)), ← append-assoc (received c) (waitingBytes s l c) bytes, holds .in-order c k);
+                  rw (
+                    append-bytes s (a .possible) l bytes (a .as-long) (a .fits) c (omega (arith, holds .children-is)),
+                    ← append-assoc (received c) (waitingBytes s l c) bytes,
+                    holds .in-order c k,
+                  );
             })
         go (inr e) = let (same, unchanged) = append-refused s l bytes r s′ l′ h e in rw (e, same, unchanged) holds
 
@@ -68,15 +74,23 @@ module _ (m n : ℕ) where
         → Holds m n s′ l stream (cond (eqb r 0) (receivedBy received c out′) received)
     take-holds c out r s′ out′ h = go (true-or-false (eqb r 0))
       where
-        here : Takeable s (length l) c (length out) → out′ ≡ take (length out) (waitingBytes s l c) → c < n → (received c ++ out′) ++ waitingBytes (taken s c (length out)) l c ≡ stream
+        here : Takeable s (length l) c (length out) → out′ ≡ take (length out) (waitingBytes s l c) → c < n
+            → (received c ++ out′) ++ waitingBytes (taken s c (length out)) l c ≡ stream
         here a out-is k =
-            rw (out-is, take-bytes s (holds .counted) c (length out) (omega (arith, a .child, holds .possible .few)) l, append-assoc, take-append-drop)
+            rw (
+              out-is,
+              take-bytes s (holds .counted) c (length out) (omega (arith, a .child, holds .possible .few)) l,
+              append-assoc,
+              take-append-drop,
+            )
             (holds .in-order c k)
 
-        more : Takeable s (length l) c (length out) → out′ ≡ take (length out) (waitingBytes s l c) → (d : ℕ) → d < n → Dec (d ≡ c) → receivedBy received c out′ d ++ waitingBytes (taken s c (length out)) l d ≡ stream
+        more : Takeable s (length l) c (length out) → out′ ≡ take (length out) (waitingBytes s l c) → (d : ℕ) → d < n → Dec (d ≡ c)
+            → receivedBy received c out′ d ++ waitingBytes (taken s c (length out)) l d ≡ stream
         more a out-is d k (yes e) = rw (e, eq-eqb c c refl) (here a out-is (omega arith))
         more a out-is d k (no e) =
-            rw (ne-eqb d c e, take-other s (holds .counted) c (length out) (omega (arith, a .child, holds .possible .few)) l d e) (holds .in-order d k)
+            rw (ne-eqb d c e, take-other s (holds .counted) c (length out) (omega (arith, a .child, holds .possible .few)) l d e)
+            (holds .in-order d k)
 
         go : (eqb r 0 ≡ true) ⊎ (eqb r 0 ≡ false) → Holds m n s′ l stream (cond (eqb r 0) (receivedBy received c out′) received)
         go (inl e) =
@@ -124,7 +138,8 @@ module _ (m n : ℕ) (s : Store) (l stream : List ℕ) (received : ℕ → List 
       asked c k (inl h) = rw (due c (ltb-true c n h))
       asked c k (inr h) = rw (h, or-right (not (eqb (length l) m)) {b = true} refl)
 
-pub run-serves : {m n : ℕ} {s : Store} {l stream : List ℕ} {received : ℕ → List ℕ} → Run m n s l stream received → Serves m n s l stream received
+pub run-serves : {m n : ℕ} {s : Store} {l stream : List ℕ} {received : ℕ → List ℕ} → Run m n s l stream received
+    → Serves m n s l stream received
 run-serves run = serves _ _ _ _ _ _ (run-holds _ _ run)
 
 -- calls leave no other store than the definition calls possible

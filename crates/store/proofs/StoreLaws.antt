@@ -15,9 +15,11 @@ use Rattle.base.specs.Table.{tab}
 use Rattle.base.proofs.BoolLaws.{and-no-right, or-no-left, or-no-right, lt-or-le}
 use Rattle.base.proofs.RangeLaws.{none-passes, all-fail, greatest-above, greatest-under}
 use Rattle.base.proofs.TableLaws.{length-tab, getD-tab}
-use Rattle.store.specs.Store.{mostChildren, onward, back, waitingFor, waitingBytes, free, countWrong, placeWrong, impossible, unfit, appended, taken, written}
+use Rattle.store.specs.Store.{mostChildren, onward, back, waitingFor, waitingBytes, free, countWrong, placeWrong, impossible, unfit}
+use Rattle.store.specs.Store.{appended, taken, written}
 use Rattle.store.specs.declared.Store.{Store}
-use Rattle.store.proofs.RoundLaws.{onward-inside, onward-round, onward-back, back-inside, back-onward, back-less, after-onward, after-back}
+use Rattle.store.proofs.RoundLaws.{onward-inside, onward-round, onward-back, back-inside, back-onward, back-less}
+use Rattle.store.proofs.RoundLaws.{after-onward, after-back}
 
 -- ---- a store that calls could leave, in facts
 
@@ -26,7 +28,8 @@ pub record Possible (s : Store) : Type 0 where
   pub placed : (s .place ≡ 0) ⊎ ((0 < s .children) × (s .place < s .length))
   pub counts : (c : ℕ) → c < mostChildren → waitingFor s c ≤ cond (ltb c (s .children)) (s .length) 0
 
-place-facts : (s : Store) → placeWrong (s .length) (s .children) (s .place) ≡ false → (s .place ≡ 0) ⊎ ((0 < s .children) × (s .place < s .length))
+place-facts : (s : Store) → placeWrong (s .length) (s .children) (s .place) ≡ false
+    → (s .place ≡ 0) ⊎ ((0 < s .children) × (s .place < s .length))
 place-facts s h = go (ℕ-discrete (s .place) 0)
   where
     go : Dec (s .place ≡ 0) → (s .place ≡ 0) ⊎ ((0 < s .children) × (s .place < s .length))
@@ -36,9 +39,12 @@ place-facts s h = go (ℕ-discrete (s .place) 0)
         let some : s .children ≡ 0 → ⊥ = eqb-false (s .children) 0 (or-no-left (eqb (s .children) 0) (not (ltb (s .place) (s .length))) k) in
         inr (omega arith, ltb-true _ _ (not-false _ (or-no-right (eqb (s .children) 0) _ k)))
 
-place-is : (s : Store) → (s .place ≡ 0) ⊎ ((0 < s .children) × (s .place < s .length)) → placeWrong (s .length) (s .children) (s .place) ≡ false
+place-is : (s : Store) → (s .place ≡ 0) ⊎ ((0 < s .children) × (s .place < s .length))
+    → placeWrong (s .length) (s .children) (s .place) ≡ false
 place-is s (inl e) = rw (eq-eqb (s .place) 0 e)
-place-is s (inr h) = rw (ne-eqb (s .children) 0 (λ e. omega arith), lt-ltb (s .place) (s .length) (h .1)) (and-no-right (not (eqb (s .place) 0)) {b = false} refl)
+place-is s (inr h) =
+    rw (ne-eqb (s .children) 0 (λ e. omega arith), lt-ltb (s .place) (s .length) (h .1))
+    (and-no-right (not (eqb (s .place) 0)) {b = false} refl)
 
 module _ (s : Store) where
   pub possible-facts : impossible s ≡ false → Possible s
@@ -47,7 +53,9 @@ module _ (s : Store) where
       let rest = or-no-right (ltb mostChildren (s .children)) _ h in record {
         few = ltb-false _ _ (or-no-left _ _ h);
         placed = place-facts s (or-no-left _ _ rest);
-        counts = λ c l. ltb-false _ _ (none-passes (countWrong s) mostChildren (or-no-right (placeWrong (s .length) (s .children) (s .place)) _ rest) c l);
+        counts =
+            λ c l. ltb-false _ _ (none-passes (countWrong s) mostChildren
+            (or-no-right (placeWrong (s .length) (s .children) (s .place)) _ rest) c l);
       }
 
   pub possible-is : Possible s → impossible s ≡ false
@@ -83,7 +91,8 @@ module _ (s : Store) where
     -- and there is room for what is free beside it
     pub free-fits : (n c : ℕ) → n ≤ free s → c < s .children → waitingFor s c + n ≤ s .length
     unfolding free
-    free-fits n c h l = omega (arith, greatest-above (waitingFor s) (s .children) c l, greatest-under (waitingFor s) (s .children) (s .length) waiting-to)
+    free-fits n c h l =
+        omega (arith, greatest-above (waitingFor s) (s .children) c l, greatest-under (waitingFor s) (s .children) (s .length) waiting-to)
 
 -- ---- an append
 
@@ -97,7 +106,9 @@ module _ (s : Store) (possible : Possible s) (some : 0 < s .children) (n : ℕ) 
   pub append-possible : Possible (appended s n)
   append-possible = record {
     few = possible .few;
-    placed = ⊎-elim (λ (h : s .length ≡ 0). inl (place-0 h)) (λ h. inr (some, onward-inside (s .length) (s .place) (place-in s possible (omega arith)) n fits-all)) (zero-or (s .length));
+    placed =
+        ⊎-elim (λ (h : s .length ≡ 0). inl (place-0 h))
+        (λ h. inr (some, onward-inside (s .length) (s .place) (place-in s possible (omega arith)) n fits-all)) (zero-or (s .length));
     counts = λ c h. rw (waiting-more c h) (count c h (lt-or-le c (s .children)));
   }
     where
@@ -121,7 +132,8 @@ module _ (m p : ℕ) (slice bytes : List ℕ) (long : length slice ≡ m) where
   written-cell q h =
       rw long (getD-tab (λ x. cond (ltb (back m x p) (length bytes)) (getD bytes (back m x p) 0) (getD slice x 0)) m q h)
 
-  pub written-before : p < m → (k : ℕ) → 0 < k → length bytes + k ≤ m → getD (written p slice bytes) (back m p k) 0 ≡ getD slice (back m p k) 0
+  pub written-before : p < m → (k : ℕ) → 0 < k → length bytes + k ≤ m
+      → getD (written p slice bytes) (back m p k) 0 ≡ getD slice (back m p k) 0
   written-before inside k some fits =
       let far : back m (back m p k) p ≡ m - k = after-back m p inside k some (omega arith) in
       written-cell (back m p k) (back-inside m p inside k (omega arith)) ∙ rw (far, le-ltb (m - k) (length bytes) (omega arith))
@@ -209,13 +221,15 @@ module _ (s : Store) (possible : Possible s) (l bytes : List ℕ) (long : length
 pub take-round : (s : Store) → Possible s → (l : List ℕ) (c n : ℕ) → c < s .children → n ≤ waitingFor s c
     → tab (λ i. getD l (onward (s .length) (back (s .length) (s .place) (waitingFor s c)) i) 0) n ≡ take n (waitingBytes s l c)
 take-round s possible l c n child enough =
-    ext-getD 0 _ _ (length-tab _ n ∙ sym size) (λ i h. cell i (omega (arith, length-tab (λ j. getD l (onward (s .length) (back (s .length) (s .place) (waitingFor s c)) j) 0) n)))
+    ext-getD 0 _ _ (length-tab _ n ∙ sym size)
+    (λ i h. cell i (omega (arith, length-tab (λ j. getD l (onward (s .length) (back (s .length) (s .place) (waitingFor s c)) j) 0) n)))
   where
     size : length (take n (waitingBytes s l c)) ≡ n
     size = length-take-le n (waitingBytes s l c) (omega (arith, length-waiting s l c))
 
     cell : (i : ℕ) → i < n
-        → getD (tab (λ j. getD l (onward (s .length) (back (s .length) (s .place) (waitingFor s c)) j) 0) n) i 0 ≡ getD (take n (waitingBytes s l c)) i 0
+        → getD (tab (λ j. getD l (onward (s .length) (back (s .length) (s .place) (waitingFor s c)) j) 0) n) i 0
+        ≡ getD (take n (waitingBytes s l c)) i 0
     cell i h =
         let fits = waiting-to s possible c child in
         let inside = place-in s possible (omega arith) in
@@ -251,7 +265,8 @@ module _ (s : Store) (long : length (s .waiting) ≡ mostChildren) (c n : ℕ) (
 
   pub take-bytes : (l : List ℕ) → waitingBytes (taken s c n) l c ≡ drop n (waitingBytes s l c)
   take-bytes l =
-      ext-getD 0 _ _ (length-waiting (taken s c n) l c ∙ waiting-less ∙ sym rest) (λ i h. cell i (omega (arith, length-waiting (taken s c n) l c, waiting-less)))
+      ext-getD 0 _ _ (length-waiting (taken s c n) l c ∙ waiting-less ∙ sym rest)
+      (λ i h. cell i (omega (arith, length-waiting (taken s c n) l c, waiting-less)))
     where
       rest : length (drop n (waitingBytes s l c)) ≡ waitingFor s c - n
       rest = rw (length-drop n (waitingBytes s l c), length-waiting s l c)

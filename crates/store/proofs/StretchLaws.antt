@@ -101,17 +101,21 @@ module _ (l bytes : List ℕ) (p f : ℕ) (place : p ≤ length l) (fits : lengt
         cell q h (inl a) b c =
             let start : q - 0 ≡ q = omega arith in
             comes q (f + q)
-            (put-inside once after 0 (n - f) (omega arith) (omega (arith, once-length)) after-length q (omega arith) a ∙ rw start (mid-byte bytes f n q a))
+            (put-inside once after 0 (n - f) (omega arith) (omega (arith, once-length)) after-length q (omega arith) a
+            ∙ rw start (mid-byte bytes f n q a))
             (back-round m q p (omega arith) ∙ omega arith) (omega arith)
         cell q h (inr a) (inl b) c =
-            stays q (second q a ∙ put-before l before p (p + f) (omega arith) (omega arith) before-length q b) (omega (arith, back-round m q p b))
+            stays q (second q a ∙ put-before l before p (p + f) (omega arith) (omega arith) before-length q b)
+            (omega (arith, back-round m q p b))
         cell q h (inr a) (inr b) (inl c) =
             let start : 0 + (q - p) ≡ q - p = omega arith in
             comes q (q - p)
-            (second q a ∙ put-inside l before p (p + f) (omega arith) (omega arith) before-length q b c ∙ rw start at (mid-byte bytes 0 f (q - p) (omega arith)))
+            (second q a ∙ put-inside l before p (p + f) (omega arith) (omega arith) before-length q b c
+            ∙ rw start at (mid-byte bytes 0 f (q - p) (omega arith)))
             (back-near m q p b) (omega arith)
         cell q h (inr a) (inr b) (inr c) =
-            stays q (second q a ∙ put-after l before p (p + f) (omega arith) (omega arith) before-length q c) (omega (arith, back-near m q p b))
+            stays q (second q a ∙ put-after l before p (p + f) (omega arith) (omega arith) before-length q c)
+            (omega (arith, back-near m q p b))
 
 -- ---- read from place p on
 

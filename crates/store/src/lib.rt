@@ -195,7 +195,8 @@ fn write_round(place: usize, slice: &mut [u8], bytes: &[u8])
 // Reads the bytes from a place of the slice on into all of `out`, in two stretches.
 fn read_round(place: usize, slice: &[u8], out: &mut [u8])
     requires { ⌜ (place ≤ length (now slice)) × (length (now out) ≤ length (now slice)) ⌝ }
-    ensures { λ _. ⌜ now (out .exit) ≡ tab (λ i. getD (now (slice .entry)) (onward (length (now (slice .entry))) place i) 0) (length (now (out .entry))) ⌝ }
+    ensures { λ _. ⌜ now (out .exit)
+        ≡ tab (λ i. getD (now (slice .entry)) (onward (length (now (slice .entry))) place i) 0) (length (now (out .entry))) ⌝ }
 {
     let n = out.len();
     let first = base::min_usize(n, slice.len() - place);

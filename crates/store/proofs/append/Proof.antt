@@ -14,7 +14,8 @@ use Rattle.store.proofs.append.Statement.{statement}
 use Rattle.store.proofs.append.Tie as tie
 
 -- what is known where the number is 0
-able : (c : tie.Then1) → let a = c .before .before .before .before .before .before .args in Appendable (a .store) (length (a .slice .now)) (length (a .bytes .now))
+able : (c : tie.Then1) → let a = c .before .before .before .before .before .before .args in
+    Appendable (a .store) (length (a .slice .now)) (length (a .bytes .now))
 able c = appendable _ _ _ (sym (c .before .append-number .ensures) ∙ c .if1 .taken)
 
 slice-aggregate-append-number : tie.Need-slice-aggregate-append-number
@@ -25,8 +26,10 @@ append-number-requires c κs = search needs
 
 write-round-requires : tie.Need-write-round-requires
 write-round-requires c κs =
-    let can = able (c .before) in
-    (omega (arith, place-to _ (can .possible), can .as-long), omega (arith, free-fits _ (can .possible) _ 0 (can .fits) (can .some), can .as-long))
+    let can = able (c .before) in (
+      omega (arith, place-to _ (can .possible), can .as-long),
+      omega (arith, free-fits _ (can .possible) _ 0 (can .fits) (can .some), can .as-long),
+    )
 
 onward-requires : tie.Need-onward-requires
 onward-requires c κs =
@@ -53,7 +56,8 @@ raise-requires c κs d h =
     let counted : length (s .waiting) ≡ mostChildren = search needs in
     let child = mid-len 0 (s .children) (s .waiting) (omega (arith, counted, can .possible .few)) in
     let start : 0 + d ≡ d = omega arith in
-    rw (mid-byte (s .waiting) 0 (s .children) d (omega (arith, child)), start) (omega (arith, free-fits s (can .possible) (length (a .bytes .now)) d (can .fits) (omega (arith, child))))
+    rw (mid-byte (s .waiting) 0 (s .children) d (omega (arith, child)), start)
+    (omega (arith, free-fits s (can .possible) (length (a .bytes .now)) d (can .fits) (omega (arith, child))))
 
 same-length : tie.Need-same-length
 same-length c = search needs

@@ -37,7 +37,8 @@ own-counts : (c : tie.After-some-above) → let st = c .before .before .before .
     c .some-above .result ≡ some (λ d. ltb (st .args .m - st .args .n) (waitingFor (given st) d)) (st .args .children)
 own-counts c =
     let st = c .before .before .before .before .before .before .before in
-    c .some-above .ensures ∙ own-above (given st) (st .pre) (unfit-facts (given st) (st .args .long) (fit (c .before .before .before .before)) .0 .few) (st .args .m - st .args .n)
+    c .some-above .ensures
+    ∙ own-above (given st) (st .pre) (unfit-facts (given st) (st .args .long) (fit (c .before .before .before .before)) .0 .few) (st .args .m - st .args .n)
 
 unfit-requires : tie.Need-unfit-requires
 unfit-requires c κs = search needs
@@ -57,7 +58,8 @@ returns-3 : tie.Need-returns-3
 returns-3 c =
     let st = c .before .before .before .before .before in
     let (possible, _) = unfit-facts (given st) _ (fit (c .before .before)) in
-    sym (append-past (given st) (st .args .long) (st .args .n) (fit (c .before .before)) (omega arith) ∙ rw (full-long (given st) possible (st .args .n) (c .if3 .taken)))
+    sym (append-past (given st) (st .args .long) (st .args .n) (fit (c .before .before)) (omega arith)
+    ∙ rw (full-long (given st) possible (st .args .n) (c .if3 .taken)))
 
 sub-some-above : tie.Need-sub-some-above
 sub-some-above c = search needs

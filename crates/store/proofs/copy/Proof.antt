@@ -31,7 +31,8 @@ loop-less c = search needs
 
 loop-again : tie.Need-loop-again Inv-loop μ-loop
 loop-again c =
-    filled-more (λ k. getD (c .before .before .before .args .from .now) k 0) (c .before .before .loop .i) _ (c .before .before .loop .to) (c .before .before .loop .inv) (omega arith)
+    filled-more (λ k. getD (c .before .before .before .args .from .now) k 0) (c .before .before .loop .i) _ (c .before .before .loop .to)
+    (c .before .before .loop .inv) (omega arith)
 
 same-length : tie.Need-same-length Inv-loop μ-loop
 same-length c = search needs

@@ -24,9 +24,11 @@ slice-read-counts : tie.Need-slice-read-counts Inv-loop μ-loop
 slice-read-counts c = search needs
 
 -- the count that is raised next is still what it was
-ahead : (c : tie.In-loop Inv-loop μ-loop) → getD (c .before .loop .counts) (c .before .loop .c) 0 ≡ getD (c .before .before .args .counts .now) (c .before .loop .c) 0
+ahead : (c : tie.In-loop Inv-loop μ-loop)
+    → getD (c .before .loop .counts) (c .before .loop .c) 0 ≡ getD (c .before .before .args .counts .now) (c .before .loop .c) 0
 ahead c =
-    filled-ahead (λ d. getD (c .before .before .args .counts .now) d 0 + c .before .before .args .n) (c .before .loop .c) _ (c .before .loop .counts)
+    filled-ahead (λ d. getD (c .before .before .args .counts .now) d 0 + c .before .before .args .n) (c .before .loop .c) _
+    (c .before .loop .counts)
     (c .before .loop .inv) (omega arith)
 
 add-counts : tie.Need-add-counts Inv-loop μ-loop
@@ -54,7 +56,8 @@ same-length : tie.Need-same-length Inv-loop μ-loop
 same-length c = search needs
 
 returns : tie.Need-returns Inv-loop μ-loop
-returns c = filled-done (λ d. getD (c .before .before .args .counts .now) d 0 + c .before .before .args .n) _ _ _ (c .before .loop .inv) (omega arith)
+returns c =
+    filled-done (λ d. getD (c .before .before .args .counts .now) d 0 + c .before .before .args .n) _ _ _ (c .before .loop .inv) (omega arith)
 
 pub raise-spec : {M : Type 1} → statement M
 raise-spec =

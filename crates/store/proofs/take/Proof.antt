@@ -12,7 +12,8 @@ use Rattle.store.proofs.take.Statement.{statement}
 use Rattle.store.proofs.take.Tie as tie
 
 -- what is known where the number is 0
-able : (c : tie.Then1) → let a = c .before .before .before .before .before .before .args in Takeable (a .store) (length (a .slice .now)) (a .child) (length (a .out .now))
+able : (c : tie.Then1) → let a = c .before .before .before .before .before .before .args in
+    Takeable (a .store) (length (a .slice .now)) (a .child) (length (a .out .now))
 able c = takeable _ _ _ _ (sym (c .before .take-number .ensures) ∙ c .if1 .taken)
 
 child-in : (c : tie.Then1) → c .before .before .before .before .before .before .args .child < mostChildren

@@ -66,7 +66,8 @@ returns c =
     let measured = mid .before .before .before in
     let st = measured .before .before .before in
     rw (c .before .before .copy2 .ensures, mid .copy .ensures)
-    (write-stretches (st .args .slice .now) (st .args .bytes .now) (st .args .place) (measured .min-usize .result) (st .pre .0) (st .pre .1) (measured .min-usize .ensures))
+    (write-stretches (st .args .slice .now) (st .args .bytes .now) (st .args .place) (measured .min-usize .result) (st .pre .0)
+    (st .pre .1) (measured .min-usize .ensures))
 
 pub write-round-spec : {M : Type 1} → statement M
 write-round-spec =

@@ -15,7 +15,7 @@ use Rattle.base.proofs.BoolLaws.{lt-or-le}
 use Rattle.base.proofs.RangeLaws.{greatest-above, greatest-under}
 use Rattle.base.proofs.TableLaws.{length-tab, getD-tab, tab-cong, tab-of-list, tab-set}
 use Rattle.store.specs.Store.{mostChildren, onward, back, waitingFor, free, impossible, unfit, startNumber, started, appended}
-use Rattle.store.specs.Store.{taken, written, Starts}
+use Rattle.store.specs.Store.{storeOf, taken, written, Starts}
 use Rattle.store.specs.Run.{Run, start, append, take as takes, Reachable}
 use Rattle.store.specs.declared.Store.{Store}
 use Rattle.store.proofs.RoundLaws.{onward-near, onward-round, back-near, back-to, back-inside, onward-back}
@@ -25,7 +25,7 @@ use Rattle.store.proofs.RunLaws.{Holds, run-holds}
 
 -- a store with other counts
 abbrev with-counts : Store → List ℕ → Store
-with-counts s counts = record { length = s .length; children = s .children; place = s .place; waiting = counts }
+with-counts s counts = storeOf (s .length) (s .children) (s .place) counts
 
 -- each of the first k children has taken as many bytes as f says
 abbrev less : Store → (ℕ → ℕ) → ℕ → Store
@@ -223,14 +223,14 @@ module _ (s : Store) (counted : length (s .waiting) ≡ mostChildren) (possible 
       let after : Reached m n filled =
       stage m n drained (possible .few) drained-empty midway most (λ c. most - waitingFor s c) some most-to (λ c h. omega arith) in
       subst (Reached m n)
-      (ap (λ (p : ℕ). record { length = m; children = n; place = p; waiting = filled .waiting }) place-is
+      (ap (λ (p : ℕ). storeOf m n p (filled .waiting)) place-is
       ∙ ap (with-counts s) (counts-are midway))
       after
 
   reached-none : n ≡ 0 → Reached m n s
   reached-none none =
       subst (Reached m n)
-      (ap (λ (p : ℕ). record { length = m; children = n; place = p; waiting = started m n .waiting }) (sym at-0) ∙ ap (with-counts s) counts)
+      (ap (λ (p : ℕ). storeOf m n p (started m n .waiting)) (sym at-0) ∙ ap (with-counts s) counts)
       began
     where
       at-0 : s .place ≡ 0

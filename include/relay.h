@@ -9,6 +9,19 @@ extern "C" {
 #endif
 
 /*
+ * The version of this header. relay_version gives the library's, as the number that
+ * RELAY_VERSION is: 1,000,000 for each major version, 1,000 for each minor one, 1 for
+ * each patch. Header and library belong together where the two are the same.
+ */
+#define RELAY_VERSION_MAJOR 1
+#define RELAY_VERSION_MINOR 6
+#define RELAY_VERSION_PATCH 0
+#define RELAY_VERSION_TEXT "1.6.0"
+#define RELAY_VERSION                           \
+    (UINT64_C(1000000) * RELAY_VERSION_MAJOR +  \
+     UINT64_C(1000) * RELAY_VERSION_MINOR + RELAY_VERSION_PATCH)
+
+/*
  * Sizes. n is the node count of a job, M its frame count, H its last slot: M plus
  * the greatest delay of a leaf. A node count is from RELAY_FEWEST_NODES to
  * RELAY_MOST_NODES, a frame count from RELAY_FEWEST_FRAMES to RELAY_MOST_FRAMES; a
@@ -41,6 +54,12 @@ extern "C" {
 /* How many children a byte store may have. */
 #define RELAY_MOST_CHILDREN 63
 
+/*
+ * The stack, in bytes, with which a thread may make any call. It is measured, not
+ * proved, and the calls that need much less say so.
+ */
+#define RELAY_STACK_SIZE 2097152
+
 /* The bytes of a job with n nodes and m frames, and the numbers of its plan. */
 #define RELAY_JOB_LENGTH(n, m) \
     (10 + 19 * ((size_t)(n) - 1) + 4 * (size_t)(m))
@@ -54,36 +73,95 @@ extern "C" {
     RELAY_PLAN_LENGTH(RELAY_MOST_NODES, RELAY_MOST_FRAMES + RELAY_LONGEST_DELAY)
 
 /*
- * The numbers that the functions below give. 0 is an answer, or a step or a call that
- * was taken; 1 to 14 and 16 to 19 are refusals; 100 is no refusal: there is no further
- * step. Where several refusals apply the first is given: 1 to 10 of the job as it is,
- * the lowest first, and then those that the function lists, in the order of its list.
+ * The numbers that the functions below give, which relay_text says in words. 0 is an
+ * answer, or a step or a call that was taken; 1 to 14 and 16 to 19 are refusals; 100
+ * is no refusal: there is no further step. 15 is the program's alone. Where several
+ * refusals apply the first is given: 1 to 10 of the job as it is, the lowest first,
+ * and then those that the function lists, in the order of its list.
  */
 #define RELAY_ANSWERED 0
-#define RELAY_SHORT 1          /* fewer than 10 bytes */
-#define RELAY_BAD_MARK 2       /* the mark is not "RLY" */
-#define RELAY_BAD_VERSION 3    /* the version is not 1 */
-#define RELAY_BAD_NODES 4      /* n is below 2 or above 64 */
-#define RELAY_BAD_FRAMES 5     /* M is 0 or above 65,536 */
-#define RELAY_BAD_LENGTH 6     /* the length is not 10 + 19(n-1) + 4M */
-#define RELAY_BAD_PARENT 7     /* some parent is not below its child's number */
-#define RELAY_BAD_DELAY 8      /* an inner node's delay is not 0, or a leaf's is
-                                  above 4,096 */
-#define RELAY_LARGE_MEMORY 9   /* a memory is above RELAY_GREATEST_MEMORY, or a
-                                  rate above RELAY_GREATEST_RATE */
-#define RELAY_LARGE_FRAME 10   /* a frame is above RELAY_GREATEST_FRAME */
-#define RELAY_BAD_LENT 11      /* something lent has the wrong length */
-#define RELAY_NO_PLAN 12       /* no plan serves every leaf in time within the
-                                  memories */
-#define RELAY_NO_DELAY 13      /* no delay up to 4,096 serves within the rates,
-                                  or at the rate of a line */
-#define RELAY_BROKEN_RULE 14   /* a plan's column breaks a rule */
-#define RELAY_BAD_RATES 16     /* no rate, or more than 8 */
-#define RELAY_BAD_STORE 17     /* a byte store that no calls could leave, or that the
-                                  call doesn't fit */
-#define RELAY_NO_SPACE 18      /* more bytes are appended than are free */
-#define RELAY_NOT_WAITING 19   /* a child takes more than waits for it */
-#define RELAY_DONE 100         /* the slot number is H or later */
+#define RELAY_SHORT 1
+#define RELAY_BAD_MARK 2
+#define RELAY_BAD_VERSION 3
+#define RELAY_BAD_NODES 4
+#define RELAY_BAD_FRAMES 5
+#define RELAY_BAD_LENGTH 6
+#define RELAY_BAD_PARENT 7
+#define RELAY_BAD_DELAY 8
+#define RELAY_LARGE_MEMORY 9
+#define RELAY_LARGE_FRAME 10
+#define RELAY_BAD_LENT 11
+#define RELAY_NO_PLAN 12
+#define RELAY_NO_DELAY 13
+#define RELAY_BROKEN_RULE 14
+#define RELAY_TOO_LARGE 15
+#define RELAY_BAD_RATES 16
+#define RELAY_BAD_STORE 17
+#define RELAY_NO_SPACE 18
+#define RELAY_NOT_WAITING 19
+#define RELAY_DONE 100
+
+/*
+ * Says a number in words, for messages: a sentence without capital and full stop,
+ * never null; one that says so for a number that is none of the above. It is defined
+ * here, and once more in the installed libraries for callers that read no header.
+ */
+#ifndef RELAY_TEXT_LINKAGE
+#define RELAY_TEXT_LINKAGE static inline
+#endif
+RELAY_TEXT_LINKAGE const char *relay_text(uint64_t number)
+{
+    switch (number) {
+    case RELAY_ANSWERED:
+        return "answered, or taken";
+    case RELAY_SHORT:
+        return "there are fewer than 10 bytes";
+    case RELAY_BAD_MARK:
+        return "the mark is not RLY";
+    case RELAY_BAD_VERSION:
+        return "the version is not 1";
+    case RELAY_BAD_NODES:
+        return "the node count is below 2 or above 64";
+    case RELAY_BAD_FRAMES:
+        return "the frame count is 0 or above 65,536";
+    case RELAY_BAD_LENGTH:
+        return "the length does not fit the node count and the frame count";
+    case RELAY_BAD_PARENT:
+        return "some parent is not below its child's number";
+    case RELAY_BAD_DELAY:
+        return "an inner node's delay is not 0, or a leaf's is above 4,096";
+    case RELAY_LARGE_MEMORY:
+        return "a memory or a rate is above 17,592,186,044,415";
+    case RELAY_LARGE_FRAME:
+        return "a frame is above 268,435,455 bytes";
+    case RELAY_BAD_LENT:
+        return "something lent has the wrong length";
+    case RELAY_NO_PLAN:
+        return "no plan serves every leaf in time within the memories";
+    case RELAY_NO_DELAY:
+        return "no delay up to 4,096 serves within the rates";
+    case RELAY_BROKEN_RULE:
+        return "the plan's next column breaks a rule, on the link named";
+    case RELAY_TOO_LARGE:
+        return "the job has over 32,768 bytes, or its plan over 4,096 numbers: "
+               "too large for the program, and not for the library";
+    case RELAY_BAD_RATES:
+        return "there is no rate, or there are more than 8";
+    case RELAY_BAD_STORE:
+        return "no calls could leave such a byte store, or the call does not fit it";
+    case RELAY_NO_SPACE:
+        return "more bytes are appended than are free";
+    case RELAY_NOT_WAITING:
+        return "the child takes more bytes than wait for it";
+    case RELAY_DONE:
+        return "done: the film has been sent, there is no further step";
+    default:
+        return "the library gives no such number";
+    }
+}
+
+/* Gives the library's version, RELAY_VERSION where it is this header's. */
+uint64_t relay_version(void);
 
 /*
  * The sizes above as the library has them. Where one differs from this header's,
@@ -114,6 +192,26 @@ struct relay_limits relay_library_limits(void);
  * about 20 kB of stack.
  */
 uint64_t relay_refusal(const uint8_t *job, size_t length);
+
+/*
+ * The sizes of a job, from which the lengths of all that is lent follow: 0, the node
+ * count n, the frame count M, the last slot H and the plan's length (n-1)(H+1); or
+ * the number of a refusal, and 0 four times.
+ */
+struct relay_sizes {
+    uint64_t number;
+    size_t nodes;
+    size_t frames;
+    size_t last_slot;
+    size_t plan_length;
+};
+
+/*
+ * Reads a job and gives its sizes; the number is 0, or the first refusal of 1 to 10
+ * that applies. `job` must point to at least `length` readable bytes. Nothing is
+ * written and nothing is kept. The call needs about 25 kB of stack.
+ */
+struct relay_sizes relay_job_sizes(const uint8_t *job, size_t length);
 
 /*
  * The answer to the memory question: 0, the last slot H and the total T(M) of

@@ -48,7 +48,8 @@ static enum status complain(const char *name)
 /* Says which number refuses a call. None is refused here but for want of space. */
 static enum status refused(const char *call, uint64_t number)
 {
-    fprintf(stderr, "feed: %s is refused by %" PRIu64 "\n", call, number);
+    fprintf(stderr, "feed: %s is refused by %" PRIu64 ": %s\n", call, number,
+            relay_text(number));
     return REFUSED;
 }
 

@@ -23,9 +23,6 @@
 
 enum status { ANSWERED = 0, REFUSED = 1, NOTHING = 2 };
 
-/* Places in a job's bytes, and that of the delay in a node's record. */
-enum { NODES = 5, FRAMES = 6, DELAY = 1 };
-
 /* A job's bytes, and both answers to it. */
 struct asked {
     uint8_t *job;
@@ -39,31 +36,6 @@ struct asked {
     struct relay_rate_answer rate;
 };
 
-/* What a number says, in words. */
-static const char *meaning(uint64_t number)
-{
-    static const char *const words[] = {
-        "accepted",
-        "fewer than 10 bytes",
-        "the mark is not RLY",
-        "the version is not 1",
-        "the node count is below 2 or above 64",
-        "the frame count is 0 or above 65,536",
-        "the length does not fit the node count and the frame count",
-        "some parent is not below its child's number",
-        "an inner node's delay is not 0, or a leaf's is above 4,096",
-        "a memory or a rate is above 17,592,186,044,415",
-        "a frame is above 268,435,455 bytes",
-        "an output of the wrong length",
-        "no plan serves every leaf in time within the memories",
-        "no delay up to 4,096 serves within the rates",
-        [RELAY_BAD_RATES] = "no rate, or more than 8"
-    };
-    int known = number < sizeof words / sizeof words[0] && words[number] != NULL;
-
-    return known ? words[number] : "unknown";
-}
-
 /* Says what is wrong with `name`, and gives the status for it. */
 static enum status complain(const char *name, const char *what)
 {
@@ -75,7 +47,7 @@ static enum status complain(const char *name, const char *what)
 static void say_refused(const char *name, const char *what, uint64_t number)
 {
     fprintf(stderr, "plan: %s: %s refused by %" PRIu64 ": %s\n", name, what,
-            number, meaning(number));
+            number, relay_text(number));
 }
 
 /*
@@ -108,43 +80,12 @@ static enum status read_job(const char *name, struct asked *asked)
     return wrong != 0 ? complain(name, strerror(wrong)) : ANSWERED;
 }
 
-/* The number of `width` bytes at `place`, the highest byte first. */
-static size_t field(const uint8_t *job, size_t place, size_t width)
+/* Asks both questions of an accepted job, which has these sizes. */
+static enum status ask(const char *name, struct relay_sizes sizes,
+                       struct asked *asked)
 {
-    size_t value = 0;
-    size_t i;
-
-    for (i = 0; i < width; i++) {
-        value = value * 256 + job[place + i];
-    }
-    return value;
-}
-
-/*
- * H of a job that relay_refusal accepts: the frame count and the greatest leaf
- * delay. Inner nodes' delays are 0, so it is the greatest of all delays.
- */
-static size_t last_slot(const uint8_t *job, size_t nodes)
-{
-    size_t greatest = 0;
-    size_t i;
-
-    for (i = 1; i < nodes; i++) {
-        size_t delay = field(job, RELAY_JOB_LENGTH(i, 0) + DELAY, 2);
-
-        if (delay > greatest) {
-            greatest = delay;
-        }
-    }
-    return field(job, FRAMES, 4) + greatest;
-}
-
-/* Asks both questions of a job that relay_refusal accepts. */
-static enum status ask(const char *name, struct asked *asked)
-{
-    size_t nodes = asked->job[NODES];
-    size_t links = nodes - 1;
-    size_t plan_length = RELAY_PLAN_LENGTH(nodes, last_slot(asked->job, nodes));
+    size_t links = sizes.nodes - 1;
+    size_t plan_length = sizes.plan_length;
 
     asked->links = links;
     asked->plan_length = plan_length;
@@ -245,20 +186,20 @@ static void print_csv(const struct asked *asked)
 static enum status plan(const char *name, int csv, struct asked *asked)
 {
     enum status status = read_job(name, asked);
-    uint64_t number;
+    struct relay_sizes sizes;
 
     if (status != ANSWERED) {
         return status;
     }
-    number = relay_refusal(asked->job, asked->job_length);
-    if (number != 0) {
-        say_refused(name, "the job is", number);
+    sizes = relay_job_sizes(asked->job, asked->job_length);
+    if (sizes.number != 0) {
+        say_refused(name, "the job is", sizes.number);
         if (!csv) {
-            printf("%" PRIu64 "\n", number);
+            printf("%" PRIu64 "\n", sizes.number);
         }
         return NOTHING;
     }
-    status = ask(name, asked);
+    status = ask(name, sizes, asked);
     if (status == NOTHING) {
         return status;
     }

@@ -7,7 +7,7 @@ use lib.Dec.{eqb}
 use lib.ListN.{getD}
 use Rattle.base.specs.Table.{tab}
 use Rattle.job.specs.Limits.{fewestNodes, mostNodes, fewestFrames, mostFrames, longestDelay, greatestMemory, greatestRate, greatestFrame}
-use Rattle.job.specs.Tree.{Tree, JobData, TreeWithin, JobWithin}
+use Rattle.job.specs.Tree.{Tree, JobData, H, planLength, TreeWithin, JobWithin}
 use Rattle.job.specs.Bytes.{frameCount, frameAt, treeOf, jobOf}
 use Rattle.job.specs.Refusal.{badNodes, badFrames, badParent, badDelay, largeMemory, largeFrame, outside, parentWrong, delayWrong, amountWrong, frameWrong, refusal}
 use Rattle.job.specs.declared.FrameMade.{FrameMade}
@@ -17,6 +17,7 @@ use Rattle.job.specs.declared.NodeMade.{NodeMade}
 use Rattle.job.specs.declared.NodeMade.the-variants as node-made
 use Rattle.job.specs.declared.Job.{Job}
 use Rattle.job.specs.declared.Reading.{Reading}
+use Rattle.job.specs.declared.JobSizes.{JobSizes}
 use Rattle.job.specs.declared.Limits.{Limits}
 
 -- every bound, as a struct
@@ -75,6 +76,14 @@ refusedOr number job = cond (eqb number 0) (record { refusal = 0; job = job }) (
 -- what the reader gives of any bytes
 abbrev pub readOf : List ℕ → Reading
 readOf s = refusedOr (refusal s) (structOf (treeOf s) (frameCount s))
+
+-- the sizes of the job that any bytes say: n, M, H and the plan's length; or the refusal, and each is 0
+abbrev pub sizesOf : List ℕ → JobSizes
+sizesOf s =
+    let j = jobOf s in
+    cond (eqb (refusal s) 0)
+    (record { number = 0; nodes = j .tree .n; frames = j .M; «last_slot» = H j; «plan_length» = planLength j })
+    (record { number = refusal s; nodes = 0; frames = 0; «last_slot» = 0; «plan_length» = 0 })
 
 -- an accepted job and its struct, as a caller of the reader has them
 pub record Accepted (s : List ℕ) (job : Job) : Type 0 where

@@ -17,7 +17,7 @@ ghost use Rattle.job.specs.Refusal.{delayWrong, frameWrong, refusal};
 ghost use Rattle.job.specs.Sums.{tinyRoom, shortRoom, middleRoom, longRoom, sumsOf};
 ghost use Rattle.job.specs.Read.{Accepted, limits, newFrame, newNode, newJob, refusedWith};
 ghost use Rattle.job.specs.Read.{nodeRefusal, frameRefusal, nodeNumber, frameNumber};
-ghost use Rattle.job.specs.Read.{structOf, bareTree, treeIn, jobIn, refusedOr, readOf};
+ghost use Rattle.job.specs.Read.{structOf, bareTree, treeIn, jobIn, refusedOr, readOf, sizesOf};
 ghost use Rattle.job.specs.Steps.{nodeAt, parentsOf, emptyJob, fullJob, InnerNodes};
 ghost use Rattle.job.specs.Steps.{headRefusal, nodesRefusal, restRefusal, sooner, Sized};
 
@@ -490,6 +490,40 @@ pub fn refusal(s: &[u8]) -> u64
     ensures { λ r. ⌜ r ≡ refusal (now (s .entry)) ⌝ }
 {
     read(s).refusal
+}
+
+// What the lengths of outputs follow from: n, M, H and the plan's length; or a refusal with its number, and then each is 0. In C too.
+#[repr(C)]
+pub struct JobSizes {
+    pub number: u64,
+    pub nodes: usize,
+    pub frames: usize,
+    pub last_slot: usize,
+    pub plan_length: usize,
+}
+
+// The sizes of the job that any bytes say, or their refusal.
+pub fn sizes(s: &[u8]) -> JobSizes
+    ensures { λ r. ⌜ r ≡ sizesOf (now (s .entry)) ⌝ }
+{
+    let read = read(s);
+    if read.refusal != 0 {
+        return JobSizes {
+            number: read.refusal,
+            nodes: 0,
+            frames: 0,
+            last_slot: 0,
+            plan_length: 0,
+        };
+    }
+    let job = read.job;
+    JobSizes {
+        number: 0,
+        nodes: job.nodes,
+        frames: job.frames,
+        last_slot: job.last_slot(),
+        plan_length: job.plan_length(),
+    }
 }
 
 // Rooms for the sums of a film, cleared. To clear the longest takes longer than the answer to a short film, so there are shorter ones.

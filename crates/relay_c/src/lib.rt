@@ -3,7 +3,7 @@ ghost use mathlib.Core.Path.{_≡_};
 ghost use lib.ListN.{length};
 ghost use Rattle.base.specs.Table.{tab};
 ghost use Rattle.job.specs.Steps.{orElse};
-ghost use Rattle.job.specs.Read.{limits};
+ghost use Rattle.job.specs.Read.{limits, sizesOf};
 ghost use Rattle.job.specs.Refusal.{badLent, refusal};
 ghost use Rattle.planner.specs.Answer.{Answers, rowPlace};
 ghost use Rattle.planner.specs.declared.Answer as planner;
@@ -12,9 +12,10 @@ ghost use Rattle.rates.specs.declared.Sizing as rates;
 ghost use Rattle.radio.specs.Answer as radio;
 ghost use Rattle.store.specs.Store.{Starts, Appends, Takes};
 ghost use Rattle.writing.specs.PutBack.{Puts};
-ghost use Rattle.relay_c.specs.Numbers.{limitNumbers, memoryNumbers, rowNumbers, rateNumbers, stepNumbers};
+ghost use Rattle.relay_c.specs.Numbers.{version, limitNumbers, memoryNumbers, rowNumbers, rateNumbers, stepNumbers};
 ghost use Rattle.relay_c.specs.Numbers.{stateLength, treeFrom, numberAt, StepSays};
 use job::Job;
+use job::JobSizes;
 use job::Limits;
 use planner::Answer;
 use rates::Sizing;
@@ -24,6 +25,16 @@ use store::Store;
 
 // How many numbers a running tree is in C: the slot number and a place for each node.
 const STATE: usize = Job::MOST_NODES + 1;
+
+// The version of the library: 1,000,000 for each major version, 1,000 for each minor one, 1 for each patch. CHANGELOG.md has them all.
+const VERSION: u64 = 1_006_000;
+
+#[no_mangle]
+pub extern "C" fn relay_version() -> u64
+    ensures { λ r. ⌜ r ≡ version ⌝ }
+{
+    VERSION
+}
 
 // Every bound, the length of a running tree and of a line, so that a header's constants can be held against them.
 #[repr(C)]
@@ -69,6 +80,14 @@ pub extern "C" fn relay_refusal(job: &[u8]) -> u64
     ensures { λ r. ⌜ r ≡ refusal (now (job .entry)) ⌝ }
 {
     job::refusal(job)
+}
+
+// The sizes that the lengths of what is lent follow from, with the contract of `job::sizes`.
+#[no_mangle]
+pub extern "C" fn relay_job_sizes(job: &[u8]) -> JobSizes
+    ensures { λ r. ⌜ r ≡ sizesOf (now (job .entry)) ⌝ }
+{
+    job::sizes(job)
 }
 
 // What the memory question returns: document 01's number, H and T(M).

@@ -1,18 +1,14 @@
 # What examples/c/run and examples/c/feed share; to be sourced. It builds a program of this folder against the proved library where it
-# must. Where the library is missing it is made first, which takes some minutes. What the building prints goes to standard error.
-set -euo pipefail
-
-root=$(cd "$(dirname "${BASH_SOURCE[0]}")/../.." && pwd)
+# must. What the building prints goes to standard error.
+source "$(dirname "${BASH_SOURCE[0]}")/../../tools/library.sh"
 
 # Builds NAME.c where it must, then runs it: run_built NAME [WORD ...].
 run_built() {
-    local source=$root/examples/c/$1.c header=$root/include/relay.h library=$root/target/staticlib/librelay_c.a
+    local source=$root/examples/c/$1.c header=$root/include/relay.h
     local program=$root/target/examples/$1
-    if [ ! -f "$library" ]; then
-        (cd "$root" && rt staticlib relay_c) >&2 || exit 2
-    fi
+    make_library || exit 2
     if [ ! -x "$program" ] || [ "$source" -nt "$program" ] || [ "$header" -nt "$program" ] || [ "$library" -nt "$program" ]; then
-        mkdir -p "$(dirname "$program")"
+        mkdir -p "$(dirname "$program")" || exit 2
         new=$program.$$
         trap 'rm -f "$new"' EXIT
         "${CC:-cc}" -std=c11 -O2 -Wall -Wextra -Werror -pedantic -I "$root/include" "$source" "$library" -o "$new" >&2 || exit 2

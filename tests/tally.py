@@ -1,0 +1,25 @@
+"""What the tests in Python share: each thing that is tested is settled once, and the last line says how many passed."""
+import pathlib
+import subprocess
+
+ROOT = pathlib.Path(__file__).resolve().parent.parent
+counts = {"passed": 0, "failed": 0}
+
+
+def settle(name, right, said=None):
+    """Counts a test; of one that failed it prints the name and what was said."""
+    counts["passed" if right else "failed"] += 1
+    if not right:
+        print(f"failed: {name}: {repr(said)[:400]}")
+
+
+def run(*words, **other):
+    """A command's status, what it printed, and what it said on standard error."""
+    done = subprocess.run([str(word) for word in words], capture_output=True, text=True, **other)
+    return done.returncode, done.stdout, done.stderr
+
+
+def report():
+    """Prints the last line, and gives the status to end with."""
+    print(f"{counts['passed']} passed, {counts['failed']} failed")
+    return 1 if counts["failed"] else 0

@@ -18,6 +18,13 @@ struct Node {
     rate: u64,
 }
 
+impl Node {
+    /// Whether it is nobody's parent.
+    fn is_leaf(&self, nodes: &[Node]) -> bool {
+        nodes.iter().all(|other| other.parent != self.own)
+    }
+}
+
 /// 0 where `bytes` are a job, else the first refusal of 1 to 10 that applies.
 pub fn refusal(bytes: &[u8]) -> u64 {
     if bytes.len() < 10 {
@@ -41,10 +48,41 @@ pub fn refusal(bytes: &[u8]) -> u64 {
         return 6;
     }
 
-    let mut nodes = Vec::new();
+    let (nodes, frames) = lists(bytes, n);
+    refusal_of_lists(&nodes, frames)
+}
+
+/// The same of the rows 7 to 10, from the nodes and the bytes of the frames.
+fn refusal_of_lists(nodes: &[Node], frames: &[u8]) -> u64 {
+    for node in nodes {
+        if node.parent >= node.own {
+            return 7;
+        }
+    }
+    for node in nodes {
+        let greatest = if node.is_leaf(nodes) { 4_096 } else { 0 };
+        if node.delay > greatest {
+            return 8;
+        }
+    }
+    for node in nodes {
+        if node.memory > 17_592_186_044_415 || node.rate > 17_592_186_044_415 {
+            return 9;
+        }
+    }
+    for frame in frames.chunks(4) {
+        if number(frame) > 268_435_455 {
+            return 10;
+        }
+    }
+    0
+}
+
+/// The nodes 1 to n - 1 and the bytes of the frames, where the length fits.
+fn lists(bytes: &[u8], n: u64) -> (Vec<Node>, &[u8]) {
+    let (mut nodes, mut rest) = (Vec::new(), &bytes[10..]);
     for own in 1..n {
-        let start = 10 + 19 * (own as usize - 1);
-        let record = &bytes[start..start + 19];
+        let (record, after) = rest.split_at(19);
         nodes.push(Node {
             own,
             parent: number(&record[0..1]),
@@ -52,30 +90,7 @@ pub fn refusal(bytes: &[u8]) -> u64 {
             memory: number(&record[3..11]),
             rate: number(&record[11..19]),
         });
+        rest = after;
     }
-
-    for node in &nodes {
-        if node.parent >= node.own {
-            return 7;
-        }
-    }
-    for node in &nodes {
-        let leaf = nodes.iter().all(|other| other.parent != node.own);
-        let greatest = if leaf { 4_096 } else { 0 };
-        if node.delay > greatest {
-            return 8;
-        }
-    }
-    for node in &nodes {
-        if node.memory > 17_592_186_044_415 || node.rate > 17_592_186_044_415 {
-            return 9;
-        }
-    }
-    let frames = &bytes[10 + 19 * (n as usize - 1)..];
-    for frame in frames.chunks(4) {
-        if number(frame) > 268_435_455 {
-            return 10;
-        }
-    }
-    0
+    (nodes, rest)
 }

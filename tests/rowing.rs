@@ -16,7 +16,7 @@ use crate::rng::Rng;
 use crate::section::Kind::{self, Fixed, Random};
 use crate::section::Wanted::{All, Any};
 use crate::section::{Count, Section, Tally, ONE};
-use crate::shapes::{any_valid, few_frames, valid, Shape, SHAPES};
+use crate::shapes::{any_valid, few_frames, valid, waiting, Shape, SHAPES};
 use crate::{reader, trees};
 
 /// What a row comes to: 0 where it is not empty, 1 to 10 where it is as the bytes are
@@ -332,18 +332,6 @@ fn bounds(rng: &mut Rng) -> Vec<Case> {
         }
     }
     cases
-}
-
-/// A job whose longest delay is that of one leaf alone.
-fn waiting(nodes: usize, frames: usize, delay: u16, rng: &mut Rng) -> Job {
-    let shape = rng.pick(&SHAPES);
-    let mut job = valid(shape, nodes, frames, rng);
-    let leaves = job.nodes(false);
-    for &leaf in &leaves {
-        job.record(leaf).delay = rng.index(usize::from(delay).max(1)) as u16;
-    }
-    job.record(rng.pick(&leaves)).delay = delay;
-    job
 }
 
 /// Each link, and those beside them, of each node count.

@@ -83,6 +83,18 @@ pub fn valid(shape: Shape, nodes: usize, frames: usize, rng: &mut Rng) -> Job {
     filled(fill, shape, nodes, frames, rng)
 }
 
+/// A job whose longest delay is that of one leaf alone.
+pub fn waiting(nodes: usize, frames: usize, delay: u16, rng: &mut Rng) -> Job {
+    let shape = rng.pick(&SHAPES);
+    let mut job = valid(shape, nodes, frames, rng);
+    let leaves = job.nodes(false);
+    for &leaf in &leaves {
+        job.record(leaf).delay = rng.index(usize::from(delay).max(1)) as u16;
+    }
+    job.record(rng.pick(&leaves)).delay = delay;
+    job
+}
+
 /// The largest job of this shape, with every field at its bound.
 pub fn at_bounds(shape: Shape, rng: &mut Rng) -> Job {
     filled(Fill::Limits, shape, MOST_NODES, MOST_FRAMES, rng)

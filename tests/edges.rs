@@ -6,7 +6,7 @@ use crate::job::{Job, Record};
 use crate::reading::Case;
 use crate::relax::Planner;
 use crate::rng::Rng;
-use crate::shapes::{at_bounds, valid, Shape, SHAPES};
+use crate::shapes::{at_bounds, valid, waiting, Shape, SHAPES};
 
 const VERSIONS: [(u16, u64); 6] = [(0, 3), (1, 0), (2, 3), (256, 3), (257, 3), (u16::MAX, 3)];
 
@@ -61,6 +61,38 @@ const FRAMES: [(u32, u64); 7] = [
     (268_435_457, 10),
     (1 << 31, 10),
     (u32::MAX, 10),
+];
+
+/// The sizes of the jobs under "Example trees": n, M, H and the plan's length.
+const EXAMPLE_SIZES: [[usize; 4]; 9] = [
+    [4, 3, 3, 12],
+    [4, 3, 3, 12],
+    [4, 3, 4, 15],
+    [4, 3, 4, 15],
+    [4, 3, 3, 12],
+    [2, 1, 1, 2],
+    [2, 1, 1, 2],
+    [4, 3, 3, 12],
+    [2, 1, 1, 2],
+];
+
+/// Those of the largest job.
+const LARGEST_SIZES: [usize; 4] = [64, 65_536, 69_632, 4_386_879];
+
+/// Delays, and the sizes with them of jobs whose nodes and frames are at their bounds.
+const SIZES: [(u16, [usize; 4]); 12] = [
+    (0, [2, 1, 1, 2]),
+    (1, [2, 1, 2, 3]),
+    (4_096, [2, 1, 4_097, 4_098]),
+    (0, [2, 65_536, 65_536, 65_537]),
+    (1, [2, 65_536, 65_537, 65_538]),
+    (4_096, [2, 65_536, 69_632, 69_633]),
+    (0, [64, 1, 1, 126]),
+    (1, [64, 1, 2, 189]),
+    (4_096, [64, 1, 4_097, 258_174]),
+    (0, [64, 65_536, 65_536, 4_128_831]),
+    (1, [64, 65_536, 65_537, 4_128_894]),
+    (4_096, LARGEST_SIZES),
 ];
 
 /// Fields moved past their bounds, where they are at them. Node 63 is a leaf in each tree.
@@ -132,7 +164,8 @@ pub fn example_jobs() -> [Job; 9] {
 pub fn examples(_: &mut Rng) -> Vec<Case> {
     example_jobs()
         .iter()
-        .map(|job| Case::known(job.encode(), 0))
+        .zip(EXAMPLE_SIZES)
+        .map(|(job, sizes)| Case::sized(job, sizes))
         .collect()
 }
 
@@ -289,11 +322,44 @@ pub fn largest(rng: &mut Rng) -> Vec<Case> {
         cases.push(Case::known([&bytes[..], &[0]].concat(), 6));
 
         let job = at_bounds(shape, rng);
-        cases.push(Case::known(job.encode(), 0));
+        cases.push(Case::sized(&job, LARGEST_SIZES));
         for (pass, expected) in PAST {
             let mut job = job.clone();
             pass(&mut job);
             cases.push(Case::known(job.encode(), expected));
+        }
+    }
+    cases
+}
+
+/// Jobs whose sizes are at their bounds, and the longest delay that of one leaf alone.
+pub fn sizes(rng: &mut Rng) -> Vec<Case> {
+    let mut cases = Vec::new();
+    for (delay, sizes) in SIZES {
+        let [nodes, frames, ..] = sizes;
+        for _ in 0..4 {
+            let job = waiting(nodes, frames, delay, rng);
+            cases.push(Case::sized(&job, sizes));
+        }
+    }
+    cases
+}
+
+/// Each leaf of trees of each shape waiting 7 slots, and the others 6, with 2 frames.
+pub fn each_leaf(rng: &mut Rng) -> Vec<Case> {
+    let mut cases = Vec::new();
+    for shape in SHAPES {
+        for nodes in [2, 3, 6, 33, 63, 64] {
+            let mut job = valid(shape, nodes, 2, rng);
+            let leaves = job.nodes(false);
+            for &leaf in &leaves {
+                job.record(leaf).delay = 6;
+            }
+            for &leaf in &leaves {
+                let mut job = job.clone();
+                job.record(leaf).delay = 7;
+                cases.push(Case::sized(&job, [nodes, 2, 9, 10 * (nodes - 1)]));
+            }
         }
     }
     cases

@@ -3,6 +3,17 @@
 
 use std::ops::Range;
 
+/// The sizes of a job; or a refusal's number, and 0 four times.
+#[repr(C)]
+#[derive(Clone, Copy, Default)]
+pub struct JobSizes {
+    pub number: u64,
+    pub nodes: usize,
+    pub frames: usize,
+    pub last_slot: usize,
+    pub plan_length: usize,
+}
+
 #[repr(C)]
 #[derive(Clone, Copy, PartialEq, Eq)]
 pub struct MemoryAnswer {
@@ -80,6 +91,8 @@ extern "C" {
     fn relay_library_limits() -> Limits;
 
     fn relay_refusal(job: *const u8, length: usize) -> u64;
+
+    fn relay_job_sizes(job: *const u8, length: usize) -> JobSizes;
 
     fn relay_memory_question(
         job: *const u8,
@@ -176,6 +189,13 @@ pub fn refusal(job: Part<u8>) -> u64 {
     let (job, length) = lend(job);
     // SAFETY: the part lies within its buffer.
     unsafe { relay_refusal(job, length) }
+}
+
+/// The library's sizes of a job. The bytes are lent mutably for the same reason.
+pub fn job_sizes(job: Part<u8>) -> JobSizes {
+    let (job, length) = lend(job);
+    // SAFETY: the part lies within its buffer.
+    unsafe { relay_job_sizes(job, length) }
 }
 
 /// The library's answer to the memory question.

@@ -1,5 +1,7 @@
 //! The independent reader: the table of refusals, row by row, with its numbers
-//! written out.
+//! written out, and the sizes of a job.
+
+use crate::library::JobSizes;
 
 /// The big-endian number that `bytes` hold.
 fn number(bytes: &[u8]) -> u64 {
@@ -93,4 +95,33 @@ fn lists(bytes: &[u8], n: u64) -> (Vec<Node>, &[u8]) {
         rest = after;
     }
     (nodes, rest)
+}
+
+/// The sizes of the job that `bytes` are, or their refusal. The last slot is that in
+/// which the last of the leaves plays the last frame; the plan's numbers are counted
+/// link by link, from slot 0 on.
+pub fn sizes(bytes: &[u8]) -> JobSizes {
+    let refused = refusal(bytes);
+    if refused != 0 {
+        return JobSizes {
+            number: refused,
+            ..JobSizes::default()
+        };
+    }
+    let (nodes, frames) = lists(bytes, number(&bytes[5..6]));
+    let frames = frames.chunks(4).count();
+    let (mut last_slot, mut plan_length) = (0, 0);
+    for leaf in nodes.iter().filter(|node| node.is_leaf(&nodes)) {
+        last_slot = last_slot.max(leaf.delay as usize + frames);
+    }
+    for _link in &nodes {
+        plan_length += (0..=last_slot).count();
+    }
+    JobSizes {
+        number: 0,
+        nodes: 1 + nodes.len(),
+        frames,
+        last_slot,
+        plan_length,
+    }
 }

@@ -1,17 +1,17 @@
-//! Reading a job: the library against the independent reader.
+//! Reading a job, its refusal and its sizes: the library against the independent reader.
 
 use std::hash::Hash;
 
 use crate::faults::with_faults;
-use crate::job::{Job, FRAME_BYTES, HEADER_BYTES, MOST_NODES, RECORD_BYTES};
+use crate::job::{Job, FRAME_BYTES, GREATEST_DELAY, HEADER_BYTES, MOST_NODES, RECORD_BYTES};
 use crate::lending::Lent;
-use crate::library::{limits, refusal, LIMITS};
+use crate::library::{job_sizes, limits, refusal, JobSizes, LIMITS};
 use crate::problem::{equal, holds, same, Problem};
 use crate::rng::Rng;
 use crate::section::Kind::{self, Fixed, Random};
-use crate::section::Wanted::{All, Any};
+use crate::section::Wanted::{self, All, Any};
 use crate::section::{Count, Section, Tally, ONE};
-use crate::shapes::{any_valid, few_frames, large_valid, valid, Shape, SHAPES};
+use crate::shapes::{any_valid, few_frames, large_valid, valid, waiting, Shape, SHAPES};
 use crate::{edges, garbage, reader};
 
 /// The documents' limits in the header's order: the nodes, the frames, the longest
@@ -58,8 +58,8 @@ impl Section for Reading {
             shaped(Shape::Caterpillar, i, rng)
         }),
         Random("valid random", 70, |i, rng| shaped(Shape::Random, i, rng)),
-        Random("one fault", 180, one_fault),
-        Random("two faults", 230, two_faults),
+        Random("one fault", 160, one_fault),
+        Random("two faults", 200, two_faults),
         Random("several faults", 40, several_faults),
         Random("cut", 50, cut),
         Random("lengthened", 30, lengthened),
@@ -68,6 +68,9 @@ impl Section for Reading {
         Random("short", 30, garbage::short),
         Random("garbage", 10, garbage::plain),
         Random("garbage in form", 20, garbage::in_form),
+        Fixed("sizes", edges::sizes),
+        Fixed("each leaf longest", edges::each_leaf),
+        Random("one leaf longest", 50, one_longest),
     ];
     const COUNTS: &'static [Count] = &[
         ("strings", ONE, All(100_000)),
@@ -75,6 +78,23 @@ impl Section for Reading {
         ("accepted strings of {} nodes", 2..=MOST_NODES, All(1)),
         ("bytes in all strings", ONE, Any),
         ("number known by construction", ONE, Any),
+        ("asked for sizes", ONE, Wanted::Random(100_000)),
+        ("jobs asked for sizes", ONE, Wanted::Random(40_000)),
+        ("sizes known by construction", ONE, Wanted::Random(6_000)),
+        ("jobs without delay", ONE, Wanted::Random(2_000)),
+        ("jobs with a delay", ONE, Wanted::Random(40_000)),
+        ("last slot above 65,535", ONE, All(40)),
+        (
+            "last slot not by the last node",
+            ONE,
+            Wanted::Random(25_000),
+        ),
+        (
+            "last slot by the last node alone",
+            ONE,
+            Wanted::Random(2_000),
+        ),
+        ("last slot by node {} alone", 1..=MOST_NODES - 1, All(5)),
     ];
 
     fn ready(_: u64) -> Result<bool, Problem> {
@@ -92,9 +112,13 @@ impl Section for Reading {
     }
 
     fn check(case: &Case, tally: &mut Tally) -> Result<bool, Problem> {
-        let due = reader::refusal(&case.bytes);
+        let sizes = reader::sizes(&case.bytes);
+        let due = sizes.number;
         if let Some(known) = case.known {
             equal("independent reader against the generator", known, due)?;
+        }
+        if let Some(known) = case.sizes {
+            same_sizes("independent sizes against the generator", known, sizes)?;
         }
         for round in 0..2 {
             let mut lent = Lent::bytes(&case.bytes, round);
@@ -105,31 +129,98 @@ impl Section for Reading {
                 lent.untouched(),
             )?;
         }
+        check_sizes(&case.bytes, sizes, tally)?;
         tally.value("number {}", due as usize);
         tally.one_if("number known by construction", case.known.is_some());
+        tally.one_if("sizes known by construction", case.sizes.is_some());
         tally.add("bytes in all strings", 0, case.bytes.len() as u64);
         if due == 0 {
             tally.value("accepted strings of {} nodes", usize::from(case.bytes[5]));
+            count_sizes(&Job::decode(&case.bytes), sizes, tally);
         }
         Ok(true)
     }
 }
 
-/// A byte string, with its number where the generator knows it.
+/// The library's sizes of a string, in two rounds. The bytes and their guards must be as
+/// they were.
+fn check_sizes(bytes: &[u8], due: JobSizes, tally: &mut Tally) -> Result<(), Problem> {
+    for round in 0..2 {
+        let mut lent = Lent::bytes(bytes, round);
+        same_sizes("sizes", due, job_sizes(lent.part()))?;
+        holds("the bytes asked for sizes kept", lent.untouched())?;
+    }
+    tally.value("asked for sizes", 0);
+    Ok(())
+}
+
+fn same_sizes(what: &str, due: JobSizes, got: JobSizes) -> Result<(), Problem> {
+    equal(&format!("{what}: number"), due.number, got.number)?;
+    equal(&format!("{what}: nodes"), due.nodes, got.nodes)?;
+    equal(&format!("{what}: frames"), due.frames, got.frames)?;
+    equal(&format!("{what}: last slot"), due.last_slot, got.last_slot)?;
+    equal(
+        &format!("{what}: plan length"),
+        due.plan_length,
+        got.plan_length,
+    )
+}
+
+/// Counts what the sizes of a job come to: by which leaves its last slot is what it is,
+/// and by which one alone where there are several. The last node is a leaf.
+fn count_sizes(job: &Job, sizes: JobSizes, tally: &mut Tally) {
+    let (leaves, end) = (job.nodes(false), job.records.len());
+    let longest = sizes.last_slot - sizes.frames;
+    let mut last = leaves.clone();
+    last.retain(|leaf| usize::from(job.records[leaf - 1].delay) == longest);
+    let alone = leaves.len() > 1 && last.len() == 1;
+    tally.value("jobs asked for sizes", 0);
+    tally.one_if("jobs without delay", longest == 0);
+    tally.one_if("jobs with a delay", longest > 0);
+    tally.one_if("last slot above 65,535", sizes.last_slot > 65_535);
+    tally.one_if("last slot not by the last node", !last.contains(&end));
+    tally.one_if("last slot by the last node alone", alone && last == [end]);
+    if alone {
+        tally.value("last slot by node {} alone", last[0]);
+    }
+}
+
+/// A byte string, with its number and the sizes of a job where the generator knows them.
 pub struct Case {
     bytes: Vec<u8>,
     known: Option<u64>,
+    sizes: Option<JobSizes>,
 }
 
 impl Case {
     pub fn known(bytes: Vec<u8>, number: u64) -> Self {
-        let known = Some(number);
-        Case { bytes, known }
+        Case {
+            known: Some(number),
+            ..Case::unknown(bytes)
+        }
     }
 
     pub fn unknown(bytes: Vec<u8>) -> Self {
-        let known = None;
-        Case { bytes, known }
+        Case {
+            bytes,
+            known: None,
+            sizes: None,
+        }
+    }
+
+    /// A job with its node count, its frame count, its last slot and its plan's length.
+    pub fn sized(job: &Job, [nodes, frames, last_slot, plan_length]: [usize; 4]) -> Self {
+        let sizes = JobSizes {
+            number: 0,
+            nodes,
+            frames,
+            last_slot,
+            plan_length,
+        };
+        Case {
+            sizes: Some(sizes),
+            ..Case::known(job.encode(), 0)
+        }
     }
 }
 
@@ -138,6 +229,21 @@ fn shaped(shape: Shape, i: u64, rng: &mut Rng) -> Case {
     let nodes = 2 + i as usize % (MOST_NODES - 1);
     let frames = few_frames(rng);
     Case::known(valid(shape, nodes, frames, rng).encode(), 0)
+}
+
+/// A job of which one leaf alone waits longest, and its sizes by the formula; the node
+/// counts 2 to 64 take turns.
+fn one_longest(i: u64, rng: &mut Rng) -> Case {
+    let links = 1 + i as usize % (MOST_NODES - 1);
+    let frames = few_frames(rng);
+    let any = rng.within(1..=u64::from(GREATEST_DELAY)) as u16;
+    let delay = rng.pick(&[1, 2, 255, 256, GREATEST_DELAY - 1, GREATEST_DELAY, any, any]);
+    let job = waiting(links + 1, frames, delay, rng);
+    let last_slot = frames + usize::from(delay);
+    Case::sized(
+        &job,
+        [links + 1, frames, last_slot, links * (last_slot + 1)],
+    )
 }
 
 /// Large jobs: valid, or with a fault in the length or one of the lists.

@@ -1,6 +1,7 @@
 /*
  * Calls the library through its header, from C, and holds the header's constants
- * against the library: against the sizes that it gives, and against what it takes.
+ * against the library: against the sizes and the version that it gives, and against
+ * what it takes.
  */
 
 #include <stdio.h>
@@ -190,7 +191,145 @@ static void numbers(void)
            relay_memory_question(job, sizeof job, plan, 15, peaks, 3).number);
 }
 
+/* The header's version: of its parts, in words, and the library's. */
+static void version(void)
+{
+    char text[64];
+
+    snprintf(text, sizeof text, "%d.%d.%d", RELAY_VERSION_MAJOR,
+             RELAY_VERSION_MINOR, RELAY_VERSION_PATCH);
+    expect("version in words", 0, (uint64_t)(strcmp(text, RELAY_VERSION_TEXT) != 0));
+    expect("version of its parts",
+           1000 * (UINT64_C(1000) * RELAY_VERSION_MAJOR + RELAY_VERSION_MINOR) +
+           RELAY_VERSION_PATCH, RELAY_VERSION);
+    expect("minor version of three digits", 1, RELAY_VERSION_MINOR < 1000);
+    expect("patch of three digits", 1, RELAY_VERSION_PATCH < 1000);
+    expect("library's version", RELAY_VERSION, relay_version());
+}
+
+/* The numbers by their names, in turn: 0 to 19, then 100. */
+static const uint64_t named[] = {
+    RELAY_ANSWERED, RELAY_SHORT, RELAY_BAD_MARK, RELAY_BAD_VERSION, RELAY_BAD_NODES,
+    RELAY_BAD_FRAMES, RELAY_BAD_LENGTH, RELAY_BAD_PARENT, RELAY_BAD_DELAY,
+    RELAY_LARGE_MEMORY, RELAY_LARGE_FRAME, RELAY_BAD_LENT, RELAY_NO_PLAN,
+    RELAY_NO_DELAY, RELAY_BROKEN_RULE, RELAY_TOO_LARGE, RELAY_BAD_RATES,
+    RELAY_BAD_STORE, RELAY_NO_SPACE, RELAY_NOT_WAITING, RELAY_DONE
+};
+enum { NAMED = sizeof named / sizeof named[0] };
+
+/* A text is a sentence without capital and full stop. */
+static void expect_sentence(const char *text)
+{
+    size_t length = strlen(text);
+
+    expect("text of some length", 1, length > 0);
+    if (length > 0) {
+        expect(text, 0, text[0] >= 'A' && text[0] <= 'Z');
+        expect(text, 0, text[length - 1] == '.');
+    }
+}
+
+/* Each number has a text of its own, and all that are none share another. */
+static void texts(void)
+{
+    static const uint64_t none[] = {
+        20, 99, 101, UINT64_C(1) << 32, (UINT64_C(1) << 32) + 1, UINT64_MAX
+    };
+    const char *const no_number = relay_text(none[0]);
+    size_t i, j;
+
+    expect("numbers by their names", 21, NAMED);
+    for (i = 0; i < NAMED; i++) {
+        const char *text = relay_text(named[i]);
+
+        expect("number by its name", i < NAMED - 1 ? i : 100, named[i]);
+        expect_sentence(text);
+        expect(text, 1, strcmp(text, no_number) != 0);
+        for (j = 0; j < i; j++) {
+            expect(text, 1, strcmp(text, relay_text(named[j])) != 0);
+        }
+    }
+    expect_sentence(no_number);
+    for (i = 0; i < sizeof none / sizeof none[0]; i++) {
+        expect("text of no number", 1, strcmp(no_number, relay_text(none[i])) == 0);
+    }
+}
+
 /* ---- each function ---- */
+
+static void expect_sizes(const char *name, size_t nodes, size_t frames,
+                         size_t last_slot, size_t plan_length,
+                         struct relay_sizes sizes)
+{
+    expect(name, RELAY_ANSWERED, sizes.number);
+    expect(name, nodes, sizes.nodes);
+    expect(name, frames, sizes.frames);
+    expect(name, last_slot, sizes.last_slot);
+    expect(name, plan_length, sizes.plan_length);
+}
+
+/* The sizes of Tree Q, then of the smallest and the largest job, first without delay. In
+   the largest the longest is that of a leaf between others that wait less. */
+static void job_sizes(void)
+{
+    size_t length;
+
+    expect_sizes("sizes of Tree Q", 4, 3, 4, 15,
+                 relay_job_sizes(tree_q, sizeof tree_q));
+    length = build(RELAY_FEWEST_NODES, RELAY_FEWEST_FRAMES);
+    expect_sizes("smallest job", 2, 1, 1, 2, relay_job_sizes(built, length));
+    write_number(record_of(1) + DELAY, 2, RELAY_LONGEST_DELAY);
+    expect_sizes("one frame, longest delay", 2, 1, 4097, 4098,
+                 relay_job_sizes(built, length));
+
+    length = build(RELAY_MOST_NODES, RELAY_MOST_FRAMES);
+    expect_sizes("largest job, no delay", 64, 65536, 65536, 4128831,
+                 relay_job_sizes(built, length));
+    write_number(record_of(1) + DELAY, 2, 2);
+    write_number(record_of(31) + DELAY, 2, RELAY_LONGEST_DELAY);
+    write_number(record_of(63) + DELAY, 2, 1);
+    expect_sizes("largest job", RELAY_MOST_NODES, RELAY_MOST_FRAMES, 69632,
+                 RELAY_MOST_PLAN_LENGTH, relay_job_sizes(built, length));
+}
+
+/* A number, and no sizes. */
+static void expect_no_sizes(uint64_t number, struct relay_sizes sizes)
+{
+    expect("no sizes, number", number, sizes.number);
+    expect("no sizes, nodes", 0, sizes.nodes);
+    expect("no sizes, frames", 0, sizes.frames);
+    expect("no sizes, last slot", 0, sizes.last_slot);
+    expect("no sizes, plan length", 0, sizes.plan_length);
+}
+
+/* Each refusal of 1 to 10: the string cut short, then one number in it set. */
+static void refused_sizes(void)
+{
+    const size_t last = record_of(RELAY_MOST_NODES - 1);
+    const struct { size_t place, width; uint64_t number, refusal; } faults[] = {
+        { 0, 1, 'r', RELAY_BAD_MARK },
+        { 3, 2, 2, RELAY_BAD_VERSION },
+        { NODES, 1, RELAY_MOST_NODES + 1, RELAY_BAD_NODES },
+        { FRAMES, 4, RELAY_FEWEST_FRAMES - 1, RELAY_BAD_FRAMES },
+        { FRAMES, 4, 3, RELAY_BAD_LENGTH },
+        { last, 1, RELAY_MOST_NODES - 1, RELAY_BAD_PARENT },
+        { last + DELAY, 2, RELAY_LONGEST_DELAY + 1, RELAY_BAD_DELAY },
+        { last + MEMORY, 8, RELAY_GREATEST_MEMORY + 1, RELAY_LARGE_MEMORY },
+        { last + RATE, 8, RELAY_GREATEST_RATE + 1, RELAY_LARGE_MEMORY },
+        { last + RATE + 8, 4, RELAY_GREATEST_FRAME + 1, RELAY_LARGE_FRAME }
+    };
+    size_t i;
+
+    expect_no_sizes(RELAY_SHORT, relay_job_sizes(tree_q, 0));
+    expect_no_sizes(RELAY_SHORT, relay_job_sizes(tree_q, 9));
+    expect_no_sizes(RELAY_BAD_LENGTH, relay_job_sizes(tree_q, 10));
+    for (i = 0; i < sizeof faults / sizeof faults[0]; i++) {
+        size_t length = build(RELAY_MOST_NODES, 2);
+
+        write_number(faults[i].place, faults[i].width, faults[i].number);
+        expect_no_sizes(faults[i].refusal, relay_job_sizes(built, length));
+    }
+}
 
 /* The memory question on Tree Q, then with too short a plan. */
 static void memory_question(void)
@@ -698,6 +837,10 @@ int main(void)
     edges();
     lengths();
     numbers();
+    version();
+    texts();
+    job_sizes();
+    refused_sizes();
     memory_question();
     rows();
     rate_question();

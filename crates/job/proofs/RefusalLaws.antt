@@ -242,3 +242,7 @@ read-accepts s r e h =
       within = w;
       same = λ x. record { tree = held x; M = frames x; frame = frameAt s };
     }
+
+-- an accepted job's struct has what H and the plan's length ask of one
+pub accepted-struct : (s : List ℕ) (job : Job) → Accepted s job → TreeWithin (treeIn job) × (job .frames ≤ mostFrames)
+accepted-struct s job acc = (acc .tree-within, rw (acc .frames) (acc .within .frames-to))

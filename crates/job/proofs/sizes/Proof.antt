@@ -1,14 +1,13 @@
 use mathlib.Core.List.{List}
 use mathlib.Core.Path.{_≡_, refl}
-use Prim.Native.Nat.{ℕ, _≤_}
+use Prim.Native.Nat.{ℕ}
 use borrow.Author.Needs.{needs}
 use borrow.Author.Tests.{ne-eqb}
 use Rattle.job.specs.Bytes.{frameAt, jobOf}
-use Rattle.job.specs.Limits.{mostFrames}
-use Rattle.job.specs.Read.{Accepted, treeIn, sizesOf}
+use Rattle.job.specs.Read.{Accepted, sizesOf}
 use Rattle.job.specs.Refusal.{refusal}
-use Rattle.job.specs.Tree.{JobData, TreeWithin, H, planLength}
-use Rattle.job.proofs.RefusalLaws.{read-number, read-accepts}
+use Rattle.job.specs.Tree.{JobData, H, planLength}
+use Rattle.job.proofs.RefusalLaws.{read-number, read-accepts, accepted-struct}
 use Rattle.job.proofs.sizes.Statement.{statement}
 use Rattle.job.proofs.sizes.Tie as tie
 
@@ -32,17 +31,11 @@ returns c = refused-sizes _ _ (read-number _ _ (c .before .before .read .ensures
 accepted : (c : tie.Else1) → Accepted (c .before .before .before .before .args .s .now) (c .before .before .read .result .job)
 accepted c = read-accepts _ _ (c .before .before .read .ensures) (c .if1 .left)
 
--- what the struct's functions require
-within : (c : tie.Else1) →
-    let job = c .before .before .read .result .job in
-    TreeWithin (treeIn job) × (job .frames ≤ mostFrames)
-within c = (accepted c .tree-within, rw (accepted c .frames) (accepted c .within .frames-to))
-
 last-slot-requires : tie.Need-last-slot-requires
-last-slot-requires c κs = within (c .before)
+last-slot-requires c κs = accepted-struct _ _ (accepted (c .before))
 
 plan-length-requires : tie.Need-plan-length-requires
-plan-length-requires c κs = within (c .before .before)
+plan-length-requires c κs = accepted-struct _ _ (accepted (c .before .before))
 
 returns-2 : tie.Need-returns-2
 returns-2 c =

@@ -7,7 +7,7 @@ use borrow.Author.Needs.{needs}
 use Rattle.planner.proofs.AnswerLaws.{early-read, early-plan, early-peaks, answered}
 use Rattle.planner.specs.Work.{widthOf}
 use Rattle.planner.specs.Answer.{Answers}
-use Rattle.job.proofs.RefusalLaws.{read-accepts, read-number}
+use Rattle.job.proofs.RefusalLaws.{read-accepts, read-number, accepted-struct}
 use Rattle.job.specs.Read.{Accepted}
 use Rattle.job.specs.Refusal.{refusal}
 use Rattle.job.specs.Bytes.{frameAt, jobOf}
@@ -49,9 +49,7 @@ returns c =
     (refl, (refl, inl (number ∙ sym early, λ z. h (sym early ∙ z))))
 
 plan-length-requires : tie.Need-plan-length-requires
-plan-length-requires c κs =
-    let acc = accepted (c .before) in
-    (acc .tree-within, omega (arith, acc .frames, acc .within .frames-to))
+plan-length-requires c κs = accepted-struct _ _ (accepted (c .before))
 
 returns-2 : tie.Need-returns-2
 unfolding Answers

@@ -5,12 +5,11 @@ use Prim.Native.Nat.{ℕ, _+_, _-_, _*_, _≤_}
 use native.Mathlib.Omega.{arith}
 use borrow.Author.Needs.{needs}
 use Rattle.job.specs.Bytes.{frameAt, jobOf}
-use Rattle.job.specs.Limits.{mostFrames}
-use Rattle.job.specs.Read.{treeIn, Accepted}
+use Rattle.job.specs.Read.{Accepted}
 use Rattle.job.specs.Refusal.{refusal}
-use Rattle.job.specs.Tree.{Tree, TreeWithin, link, H, planLength}
+use Rattle.job.specs.Tree.{Tree, link, H, planLength}
 use Rattle.job.specs.declared.Job.{Job}
-use Rattle.job.proofs.RefusalLaws.{read-number, read-accepts}
+use Rattle.job.proofs.RefusalLaws.{read-number, read-accepts, accepted-struct}
 use Rattle.job.proofs.TreeLaws.{link-is, link-past}
 use Rattle.planner.proofs.PlaceLaws.{refused-nowhere, no-link-nowhere, no-plan-nowhere, place-is, row-inside}
 use Rattle.planner.proofs.row_place.Statement.{statement}
@@ -41,10 +40,6 @@ accepted c = read-accepts _ _ (c .before .before .read .ensures) (c .if1 .left)
 -- the struct's count of nodes is the tree's
 nodes-are : (c : tie.Else1) → job-at c .nodes ≡ jobOf (bytes-at c) .tree .n
 nodes-are c = ap (λ (t : Tree). t .n) (accepted c .held)
-
--- what the struct's functions require
-within : (c : tie.Else1) → TreeWithin (treeIn (job-at c)) × (job-at c .frames ≤ mostFrames)
-within c = (accepted c .tree-within, rw (accepted c .frames) (accepted c .within .frames-to))
 
 -- past the third test link i exists
 linked : (c : tie.Else3) → link (jobOf (bytes-at (first c)) .tree .n) (first c .before .before .before .before .args .i) ≡ true
@@ -88,7 +83,7 @@ returns-3 c =
     no-link-nowhere _ _ _ (accepted e .none) (link-past _ _ (rw (nodes-are e) at (c .if3 .taken)))
 
 plan-length-requires : tie.Need-plan-length-requires
-plan-length-requires c κs = within (first c)
+plan-length-requires c κs = accepted-struct _ _ (accepted (first c))
 
 returns-4 : tie.Need-returns-4
 returns-4 c =
@@ -96,7 +91,7 @@ returns-4 c =
     no-plan-nowhere _ _ _ (accepted (first (p .before)) .none) (linked (p .before)) (λ z. c .if4 .taken (z ∙ sym (long-is p)))
 
 last-slot-requires : tie.Need-last-slot-requires
-last-slot-requires c κs = within (first (c .before .before))
+last-slot-requires c κs = accepted-struct _ _ (accepted (first (c .before .before)))
 
 add-slots : tie.Need-add-slots
 add-slots c = omega (arith, inside c)

@@ -7,7 +7,7 @@ use Rattle.io.proofs.Counting.{counts}
 use Rattle.job.specs.Tree.{Tree, planLength}
 use Rattle.job.specs.Bytes.{frameAt, jobOf}
 use Rattle.job.specs.Refusal.{refusal}
-use Rattle.job.proofs.RefusalLaws.{read-accepts, read-number}
+use Rattle.job.proofs.RefusalLaws.{read-accepts, read-number, accepted-struct}
 use Rattle.job.specs.Read.{Accepted}
 use Rattle.relay.specs.Text.{line}
 use Rattle.relay.proofs.PrintedLaws.{too-long, refused-job, too-large, asked}
@@ -57,9 +57,7 @@ returns-2 c =
     )
 
 plan-length-requires : tie.Need-plan-length-requires
-plan-length-requires c κs =
-    let acc = accepted (c .before) in
-    (acc .tree-within, omega (arith, acc .frames, acc .within .frames-to))
+plan-length-requires c κs = accepted-struct _ _ (accepted (c .before))
 
 add-alone-requires-3 : tie.Need-add-alone-requires-3
 add-alone-requires-3 c κs = search needs

@@ -5,7 +5,7 @@ use lib.ListN.{length}
 use Rattle.job.specs.Bytes.{frameAt, jobOf}
 use Rattle.job.specs.Refusal.{refusal}
 use Rattle.job.specs.Tree.{Tree, H, planLength}
-use Rattle.job.proofs.RefusalLaws.{read-accepts, read-number}
+use Rattle.job.proofs.RefusalLaws.{read-accepts, read-number, accepted-struct}
 use Rattle.job.specs.Read.{Accepted}
 use Rattle.planner.specs.Work.{widthOf}
 use Rattle.running.specs.Running.{stepRefusal, Stepped}
@@ -71,9 +71,7 @@ returns c =
     rw (c .refused .ensures) (refl, (refl, (refl, inl (number ∙ sym early, (λ z. h (sym early ∙ z), refl)))))
 
 plan-length-requires : tie.Need-plan-length-requires
-plan-length-requires c κs =
-    let acc = accepted (c .before) in
-    (acc .tree-within, omega (arith, acc .frames, acc .within .frames-to))
+plan-length-requires c κs = accepted-struct _ _ (accepted (c .before))
 
 refused-requires-2 : tie.Need-refused-requires-2
 refused-requires-2 c κs = search needs
@@ -115,9 +113,7 @@ returns-4 c =
     rw (c .refused4 .ensures) (refl, (refl, (refl, inl (sym early, (λ z. absurd (omega (arith, early)), refl)))))
 
 last-slot-requires : tie.Need-last-slot-requires
-last-slot-requires c κs =
-    let acc = accepted (c .before .before .before .before .before .before .before) in
-    (acc .tree-within, omega (arith, acc .frames, acc .within .frames-to))
+last-slot-requires c κs = accepted-struct _ _ (accepted (c .before .before .before .before .before .before .before))
 
 returns-5 : tie.Need-returns-5
 unfolding Stepped

@@ -40,8 +40,11 @@ def told(what):
     """Whatever fails within is a problem, told in these words and with the reason."""
     try:
         yield
-    except (OSError, subprocess.CalledProcessError) as error:
-        raise Problem(f"{what}: {getattr(error, 'strerror', None) or error}") from None
+    except OSError as error:
+        raise Problem(f"{what}: {error.strerror or error}") from None
+    except subprocess.CalledProcessError as error:
+        how = f"status {error.returncode}" if error.returncode > 0 else f"signal {-error.returncode}"
+        raise Problem(f"{what}: {shlex.join(error.cmd)} ended with {how}") from None
 
 
 def read_job(file, name):

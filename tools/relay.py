@@ -67,8 +67,6 @@ def is_built():
 
 def build():
     """Proves and builds the program. The mark gets the time of the beginning, so that a source which changes meanwhile is newer."""
-    if not any(os.access(os.path.join(folder, "rt"), os.X_OK) for folder in os.get_exec_path()):
-        raise Problem("the program must be built first, and rt, Rattle's command, is not on the PATH")
     folder = TARGET if os.path.lexists(TARGET) else ROOT
     with told(f"the program must be built first, and {folder} can't be written"):
         if folder == ROOT:
@@ -76,6 +74,8 @@ def build():
         open(BUILT, "wb").close()
         began = os.stat(BUILT).st_mtime_ns
         os.unlink(BUILT)
+    if not any(os.access(os.path.join(folder, "rt"), os.X_OK) for folder in os.get_exec_path()):
+        raise Problem("the program must be built first, and rt, Rattle's command, is not on the PATH")
     say("the program is proved and built first, which takes some minutes")
     output = subprocess.DEVNULL if sys.stderr is None else 2
     with told("the program could not be built"):

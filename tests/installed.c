@@ -241,6 +241,15 @@ static void *ask_constant(void *given)
     return NULL;
 }
 
+static void *take_step(void *given)
+{
+    struct answers *a = given;
+
+    relay_step(a->tree, RELAY_TREE_LENGTH, tree_q, JOB, due.plan, LINKS * SLOTS,
+               a->sent, LINKS, a->held, LINKS);
+    return NULL;
+}
+
 /* Makes a call in a thread of this process with the small stack, and ends it. */
 static void call_on(void *stack, void *(*call)(void *))
 {
@@ -293,6 +302,7 @@ static void small_stacks(void)
     expect_stopped("the memory question on a small stack", ask_memory);
     expect_stopped("the rate question on a small stack", ask_rate);
     expect_stopped("constant rates on a small stack", ask_constant);
+    expect_stopped("a step on a small stack", take_step);
 }
 
 int main(void)

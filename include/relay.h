@@ -189,7 +189,7 @@ struct relay_limits relay_library_limits(void);
  * Reads `length` bytes at `job` and returns 0 where they are a job, else the
  * number of the first refusal of 1 to 10 that applies. `job` must point to at least
  * `length` readable bytes. Nothing is written and nothing is kept. The call needs
- * about 20 kB of stack.
+ * about 15 kB of stack.
  */
 uint64_t relay_refusal(const uint8_t *job, size_t length);
 
@@ -209,7 +209,7 @@ struct relay_sizes {
 /*
  * Reads a job and gives its sizes; the number is 0, or the first refusal of 1 to 10
  * that applies. `job` must point to at least `length` readable bytes. Nothing is
- * written and nothing is kept. The call needs about 25 kB of stack.
+ * written and nothing is kept. The call needs about 20 kB of stack.
  */
 struct relay_sizes relay_job_sizes(const uint8_t *job, size_t length);
 
@@ -264,7 +264,7 @@ struct relay_row {
  * job, where `link` is 0 or not below n, and where `plan_length` is not (n-1)(H+1).
  *
  * `job` must point to at least `job_length` readable bytes. Nothing is written and
- * nothing is kept. The call needs about 25 kB of stack.
+ * nothing is kept. The call needs about 20 kB of stack.
  */
 struct relay_row relay_row_of(
     const uint8_t *job, size_t job_length,
@@ -348,7 +348,7 @@ uint64_t relay_constant_rates(
  *
  * `job` must point to at least `job_length` writable bytes and `memories` to at
  * least `memories_length` readable numbers, and the two may not overlap. Nothing is
- * kept. The call needs about 25 kB of stack.
+ * kept. The call needs about 15 kB of stack.
  */
 uint64_t relay_put_back(
     uint8_t *job, size_t job_length,

@@ -1,8 +1,11 @@
 """What the tests in Python share: each thing that is tested is settled once, and the last line says how many passed."""
+import os
 import pathlib
 import subprocess
 
 ROOT = pathlib.Path(__file__).resolve().parent.parent
+# A process that meets the modes of files: where the tests are root's, one of nobody's.
+BOUND = {"user": 65_534, "group": 65_534, "extra_groups": []} if os.geteuid() == 0 else {}
 counts = {"passed": 0, "failed": 0}
 
 
@@ -17,6 +20,12 @@ def run(*words, **other):
     """A command's status, what it printed, and what it said on standard error."""
     done = subprocess.run([str(word) for word in words], capture_output=True, text=True, **other)
     return done.returncode, done.stdout, done.stderr
+
+
+def write_executable(path, text):
+    path.parent.mkdir(parents=True, exist_ok=True)
+    path.write_text(text)
+    path.chmod(0o755)
 
 
 def report():

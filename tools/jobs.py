@@ -1,10 +1,6 @@
-"""A job as documents 01 and 02 have it: its bytes, the table of refusals 1 to 10, and the curves. Written from the documents alone, so
-that it can be held against the proved library. The commands beside it use it, and read and write their files by it."""
-import contextlib
-import errno
-import os
-import secrets
-import stat
+"""A job as docs/RULES.md has it: its bytes and the table of refusals 1 to 10. Written from the rules alone, so that it can be held
+against the proved library."""
+import array
 import sys
 from dataclasses import dataclass
 
@@ -12,7 +8,7 @@ MARK = b"RLY"
 VERSION = 1
 MOST_NODES = 64
 MOST_FRAMES = 65_536
-GREATEST_DELAY = 4_096
+LONGEST_DELAY = 4_096
 GREATEST_AMOUNT = 17_592_186_044_415
 GREATEST_FRAME = 268_435_455
 HEAD, RECORD, FRAME = 10, 19, 4
@@ -22,111 +18,43 @@ WIDTHS = {"parent": 1, "delay": 2, "memory": 8, "rate": 8}
 PROGRAM_BYTES, PROGRAM_NUMBERS = 32_768, 4_096
 
 
-class Problem(Exception):
-    """What is wrong, in a sentence that names the place."""
-
-
-def read_file(name):
-    """A file's bytes; - is standard input."""
-    try:
-        if name == "-":
-            return sys.stdin.buffer.read()
-        with open(name, "rb") as file:
-            return file.read()
-    except (OSError, ValueError) as error:
-        raise Problem(f"{name}: {getattr(error, 'strerror', None) or error}") from None
-
-
-def write_file(name, data, inputs):
-    """Writes a file, whole or not at all; - is standard output. A file that is one of the inputs is left alone. What is no regular file,
-    or is open already and named so, as by /dev/stdout, is written to as it is."""
-    own = identity(name, 1)
-    for other in inputs:
-        if own is not None and own == identity(other, 0):
-            raise Problem(f"{name}: the same file as the input {other}, which would be lost")
-    try:
-        if name == "-":
-            write_to(1, data, closefd=False)
-        elif is_special(name):
-            write_to(name, data)
-        else:
-            replace_file(os.path.realpath(name), data)
-    except (OSError, ValueError) as error:
-        raise Problem(f"{name}: {getattr(error, 'strerror', None) or error}") from None
-
-
-def identity(name, stream):
-    """The device and the inode of a regular file, else None; - is the stream of that number."""
-    try:
-        found = os.fstat(stream) if name == "-" else os.stat(name)
-    except (OSError, ValueError):
-        return None
-    return (found.st_dev, found.st_ino) if stat.S_ISREG(found.st_mode) else None
-
-
-def is_special(name):
-    """Whether there is something by that name that isn't a regular file, or a link on the way leads through /proc to an open file."""
-    if os.path.exists(name) and identity(name, 1) is None:
-        return True
-    path = os.path.abspath(name)
-    for _ in range(40):
-        folder = os.path.realpath(os.path.dirname(path))
-        if f"{folder}/".startswith("/proc/"):
-            return True
-        path = os.path.join(folder, os.path.basename(path))
-        if not os.path.islink(path):
-            break
-        path = os.path.join(folder, os.readlink(path))
-    return False
-
-
-def write_to(file, data, **other):
-    with open(file, "wb", **other) as out:
-        out.write(data)
-
-
-def replace_file(path, data):
-    """Writes a file beside the path, and then gives it the path's name. A file that was there hands on its mode and, where it can be, its
-    owner; one that may not be written to is not replaced."""
-    old = os.stat(path) if os.path.exists(path) else None
-    if old and not os.access(path, os.W_OK):
-        raise PermissionError(errno.EACCES, os.strerror(errno.EACCES))
-    folder = os.path.dirname(path)
-    new = os.path.join(folder, f".{secrets.token_hex(8)}.new")
-    try:
-        out = os.open(new, os.O_WRONLY | os.O_CREAT | os.O_EXCL, 0o666)
-    except OSError as error:
-        raise OSError(error.errno, f"no file can be made in {folder}: {error.strerror}") from None
-    try:
-        with open(out, "wb") as file:
-            file.write(data)
-            file.flush()
-            if old:
-                with contextlib.suppress(OSError):
-                    os.fchown(out, old.st_uid, old.st_gid)
-                os.fchmod(out, old.st_mode & 0o777)
-            os.fsync(out)
-        os.rename(new, path)
-    except BaseException:
-        os.unlink(new)
-        raise
-
-
 @dataclass(frozen=True)
 class Node:
     parent: int
-    delay: int
-    memory: int
-    rate: int
+    delay: int = 0
+    memory: int = 0
+    rate: int = 0
 
 
 @dataclass(frozen=True)
 class Breach:
-    """A rule of the table of refusals that a job breaks: its number, where (("node", i), ("frame", m), "nodes", "frames" or "bytes") and
-    a sentence."""
+    """A rule of the table of refusals that a job breaks: its number, where (("node", i), ("frame", m), "nodes", "frames" or "bytes"), the
+    field, its place in the bytes and its width, its value, the values that it may have, and one of these. Of a length the place is 0 and
+    the width None; of a file longer than any job no more is known."""
     number: int
     where: object
-    sentence: str
+    field: str
+    place: int
+    width: int
+    value: object
+    bound: str
+    sound: object
+
+    def found(self):
+        """The value in words."""
+        if self.width is None and self.value > MOST_BYTES:
+            return f"more than {MOST_BYTES:,}"
+        return self.value.hex(" ") if isinstance(self.value, bytes) else f"{self.value:,}"
+
+    def sentence(self):
+        return f"{self.field} is {self.found()}, where it must be {self.bound}"
+
+    def mended(self, data):
+        """The bytes with this field as it may be."""
+        if self.width is None:
+            return data[:self.sound] + bytes(max(self.sound - len(data), 0))
+        sound = self.sound if isinstance(self.sound, bytes) else self.sound.to_bytes(self.width, "big")
+        return data[:self.place] + sound + data[self.place + self.width:]
 
 
 @dataclass(frozen=True)
@@ -148,42 +76,58 @@ class Job:
         inner = {node.parent for node in self.nodes}
         return [i for i in self.links() if i not in inner]
 
-    def leaves_below(self, i):
-        """The leaves below node i, or i itself where it is one."""
-        found, rest = [], [i]
-        while rest:
-            j = rest.pop()
-            below = self.children(j)
-            rest += below
-            found += [] if below else [j]
+    def path(self, i):
+        """Node i and the nodes above it but the root, upward."""
+        found = []
+        while i != 0:
+            found.append(i)
+            i = self.node(i).parent
         return found
+
+    def called(self, i):
+        """A node in words."""
+        return f"node {i}, a {'screen' if i in self.leaves() else 'box'}"
 
     def last_slot(self):
         """H."""
         return len(self.frames) + max(self.node(i).delay for i in self.leaves())
 
 
+def length(nodes, frames):
+    """The bytes of a job with so many nodes, the root with them, and frames."""
+    return HEAD + RECORD * (nodes - 1) + FRAME * frames
+
+
+MOST_BYTES = length(MOST_NODES, MOST_FRAMES)
+
+
 def to_bytes(job):
     head = MARK + VERSION.to_bytes(2, "big") + (len(job.nodes) + 1).to_bytes(1, "big") + len(job.frames).to_bytes(4, "big")
     records = [getattr(node, name).to_bytes(width, "big") for node in job.nodes for name, width in WIDTHS.items()]
-    return head + b"".join(records) + b"".join(size.to_bytes(FRAME, "big") for size in job.frames)
+    return head + b"".join(records) + big_endian(array.array("I", job.frames)).tobytes()
+
+
+def big_endian(numbers):
+    if sys.byteorder == "little":
+        numbers.byteswap()
+    return numbers
 
 
 def head_breach(data):
     """The first of refusals 1 to 6 that applies to the bytes, or None."""
     if len(data) < HEAD:
-        return Breach(1, "bytes", f"{len(data)} bytes, fewer than {HEAD}")
+        return Breach(1, "bytes", "the length in bytes", 0, None, len(data), f"at least {HEAD}", HEAD)
     if data[:3] != MARK:
-        return Breach(2, "bytes", f"the mark is {data[:3].hex(' ')}, not {MARK.hex(' ')} (RLY)")
+        return Breach(2, "bytes", "the mark", 0, 3, data[:3], f"{MARK.hex(' ')}, the letters RLY", MARK)
     version, nodes, frames = (int.from_bytes(data[a:b], "big") for a, b in ((3, 5), (5, 6), (6, 10)))
     if version != VERSION:
-        return Breach(3, "bytes", f"the version is {version}, not {VERSION}")
+        return Breach(3, "bytes", "the version", 3, 2, version, str(VERSION), VERSION)
     found = count_breaches(nodes, frames)
     if found:
         return found[0]
-    length = HEAD + RECORD * (nodes - 1) + FRAME * frames
-    if len(data) != length:
-        return Breach(6, "bytes", f"{len(data)} bytes, where {nodes} nodes and {frames} frames take {length}")
+    due = length(nodes, frames)
+    if len(data) != due:
+        return Breach(6, "bytes", "the length in bytes", 0, None, len(data), f"{due:,} with {nodes} nodes and {frames:,} frames", due)
     return None
 
 
@@ -191,9 +135,10 @@ def count_breaches(nodes, frames):
     """Refusals 4 and 5, of the counts n and M."""
     found = []
     if not 2 <= nodes <= MOST_NODES:
-        found.append(Breach(4, "nodes", f"{nodes} nodes with the root, where a job has 2 to {MOST_NODES}"))
+        sound = min(max(nodes, 2), MOST_NODES)
+        found.append(Breach(4, "nodes", "the node count, with the root,", 5, 1, nodes, f"2 to {MOST_NODES}", sound))
     if not 1 <= frames <= MOST_FRAMES:
-        found.append(Breach(5, "frames", f"{frames} frames, where a job has 1 to {MOST_FRAMES}"))
+        found.append(Breach(5, "frames", "the frame count", 6, 4, frames, f"1 to {MOST_FRAMES:,}", min(max(frames, 1), MOST_FRAMES)))
     return found
 
 
@@ -202,19 +147,19 @@ def field_breaches(job):
     inner = {node.parent for node in job.nodes}
     found = []
     for i in job.links():
-        node, where = job.node(i), ("node", i)
-        if node.parent >= i:
-            found.append(Breach(7, where, f"parent {node.parent} of node {i} is not below {i}"))
-        if i in inner and node.delay != 0:
-            found.append(Breach(8, where, f"delay {node.delay} of node {i}, which is a parent and so has delay 0"))
-        if i not in inner and node.delay > GREATEST_DELAY:
-            found.append(Breach(8, where, f"delay {node.delay} of leaf {i} is above {GREATEST_DELAY}"))
-        for name in ("memory", "rate"):
-            if getattr(node, name) > GREATEST_AMOUNT:
-                found.append(Breach(9, where, f"{name} {getattr(node, name)} of node {i} is above {GREATEST_AMOUNT}"))
+        node, place = job.node(i), HEAD + RECORD * (i - 1)
+        kind, delay = ("box", 0) if i in inner else ("screen", LONGEST_DELAY)
+        bounds = {"parent": (7, i - 1), "delay": (8, delay), "memory": (9, GREATEST_AMOUNT), "rate": (9, GREATEST_AMOUNT)}
+        for name, (number, most) in bounds.items():
+            value, width = getattr(node, name), WIDTHS[name]
+            if value > most:
+                field = f"the {name} of node {i}, a {kind},"
+                found.append(Breach(number, ("node", i), field, place, width, value, f"0 to {most:,}" if most else "0", most))
+            place += width
     for m, size in enumerate(job.frames, 1):
         if size > GREATEST_FRAME:
-            found.append(Breach(10, ("frame", m), f"frame {m} has {size} bytes, above {GREATEST_FRAME}"))
+            place, bound = length(len(job.nodes) + 1, m - 1), f"0 to {GREATEST_FRAME:,}"
+            found.append(Breach(10, ("frame", m), f"the size of frame {m:,}", place, FRAME, size, bound, GREATEST_FRAME))
     return sorted(found, key=lambda breach: breach.number)
 
 
@@ -228,7 +173,7 @@ def from_bytes(data):
     breach = head_breach(data)
     if breach:
         return None, [breach]
-    first_frame = HEAD + RECORD * (data[5] - 1)
+    first_frame = length(data[5], 0)
     nodes = []
     for at in range(HEAD, first_frame, RECORD):
         fields = []
@@ -236,69 +181,10 @@ def from_bytes(data):
             fields.append(int.from_bytes(data[at:at + width], "big"))
             at += width
         nodes.append(Node(*fields))
-    frames = tuple(int.from_bytes(data[at:at + FRAME], "big") for at in range(first_frame, len(data), FRAME))
-    job = Job(tuple(nodes), frames)
+    job = Job(tuple(nodes), tuple(big_endian(array.array("I", data[first_frame:]))))
     return job, field_breaches(job)
 
 
-def too_large_for_program(job, length):
-    """Whether the program refuses an accepted job by 15."""
-    return length > PROGRAM_BYTES or len(job.nodes) * (job.last_slot() + 1) > PROGRAM_NUMBERS
-
-
-class Curves:
-    """D, the lower and the upper curve of an accepted job, each a list over slots 0 to H."""
-
-    def __init__(self, job):
-        self.job, self.last = job, job.last_slot()
-        self.sums = [0]
-        for size in job.frames:
-            self.sums.append(self.sums[-1] + size)
-
-    def total(self):
-        return self.sums[-1]
-
-    def played(self, delay):
-        """T(k - delay) for each slot k."""
-        return [0] * delay + self.sums + [self.total()] * (self.last - delay - len(self.job.frames))
-
-    def demand(self, i):
-        """D: the greatest of the leaves below is that of the earliest, as T never falls."""
-        return self.played(min(self.job.node(leaf).delay for leaf in self.job.leaves_below(i)))
-
-    def lower(self, i):
-        node = self.job.node(i)
-        if node.parent == 0:
-            return self.demand(i)
-        less = self.job.node(node.parent).memory
-        return [max(d, above - less) for d, above in zip(self.demand(i), self.lower(node.parent))]
-
-    def room(self, i):
-        """The upper curve of a node before its ancestors and T(M) are taken in. It is the least of terms T(k - d) + c; the result has c for
-        each d."""
-        below = self.job.children(i)
-        terms = least_terms(self.room(j) for j in below) if below else {self.job.node(i).delay: 0}
-        return {delay: more + self.job.node(i).memory for delay, more in terms.items()}
-
-    def upper(self, i):
-        rooms = []
-        while i != 0:
-            rooms.append(self.room(i))
-            i = self.job.node(i).parent
-        row = [self.total()] * (self.last + 1)
-        for delay, more in least_terms(rooms).items():
-            row = [min(least, played + more) for least, played in zip(row, self.played(delay))]
-        return [0] + row[1:]
-
-
-def least_terms(rooms):
-    terms = {}
-    for room in rooms:
-        for delay, more in room.items():
-            terms[delay] = min(more, terms.get(delay, more))
-    return terms
-
-
-def rises(row):
-    """What a row carries in each of slots 1 to H."""
-    return [late - early for early, late in zip(row, row[1:])]
+def too_large_for_program(job, size):
+    """Whether the program refuses an accepted job of so many bytes by 15."""
+    return size > PROGRAM_BYTES or len(job.nodes) * (job.last_slot() + 1) > PROGRAM_NUMBERS

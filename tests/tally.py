@@ -1,7 +1,11 @@
 """What the tests in Python share: each thing that is tested is settled once, and the last line says how many passed."""
+import concurrent.futures
+import functools
+import multiprocessing
 import os
 import pathlib
 import subprocess
+import sys
 
 ROOT = pathlib.Path(__file__).resolve().parent.parent
 # A process that meets the modes of files: where the tests are root's, one of nobody's.
@@ -26,6 +30,22 @@ def write_executable(path, text):
     path.parent.mkdir(parents=True, exist_ok=True)
     path.write_text(text)
     path.chmod(0o755)
+
+
+def counted(test, case):
+    """Runs a test on a case, and gives what was counted."""
+    counts.update(passed=0, failed=0)
+    test(case)
+    sys.stdout.flush()
+    return dict(counts)
+
+
+def side_by_side(test, cases):
+    """Runs a test on each case, in processes of their own and two at a time, and adds up what they counted."""
+    with concurrent.futures.ProcessPoolExecutor(2, multiprocessing.get_context("fork")) as pool:
+        for found in pool.map(functools.partial(counted, test), cases):
+            for key in counts:
+                counts[key] += found[key]
 
 
 def report():

@@ -14,9 +14,9 @@ extern "C" {
  * each patch. Header and library belong together where the two are the same.
  */
 #define RELAY_VERSION_MAJOR 1
-#define RELAY_VERSION_MINOR 6
+#define RELAY_VERSION_MINOR 7
 #define RELAY_VERSION_PATCH 0
-#define RELAY_VERSION_TEXT "1.6.0"
+#define RELAY_VERSION_TEXT "1.7.0"
 #define RELAY_VERSION                           \
     (UINT64_C(1000000) * RELAY_VERSION_MAJOR +  \
      UINT64_C(1000) * RELAY_VERSION_MINOR + RELAY_VERSION_PATCH)

@@ -25,9 +25,9 @@ use Rattle.relay_c.specs.declared.Row.{Row}
 use Rattle.relay_c.specs.declared.RateAnswer.{RateAnswer}
 use Rattle.relay_c.specs.declared.StepAnswer.{StepAnswer}
 
--- the version of the library, 1.6.0, as one number
+-- the version of the library, 1.7.0, as one number
 abbrev pub version : ℕ
-version = 1006000
+version = 1007000
 
 -- how many numbers a running tree is: its slot number, and a place for each node
 abbrev pub stateLength : ℕ

@@ -27,7 +27,7 @@ use store::Store;
 const STATE: usize = Job::MOST_NODES + 1;
 
 // The version of the library: 1,000,000 for each major version, 1,000 for each minor one, 1 for each patch. CHANGELOG.md has them all.
-const VERSION: u64 = 1_006_000;
+const VERSION: u64 = 1_007_000;
 
 #[no_mangle]
 pub extern "C" fn relay_version() -> u64

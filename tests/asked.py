@@ -522,6 +522,6 @@ def test_leaf_words(folder):
 
 TESTS = [
     test_plan_forms, test_plan_table, test_plan_longest, test_plan_refused, test_no_job, test_put_back, test_why_memories,
-    test_why_rates, test_why_bytes, test_why_long, test_why_many_bytes, test_why_answered, test_why_confirms, test_radio, test_radio_picture,
-    test_radio_words, test_leaf, test_leaf_words,
+    test_why_rates, test_why_bytes, test_why_long, test_why_many_bytes, test_why_answered, test_why_confirms, test_radio,
+    test_radio_picture, test_radio_words, test_leaf, test_leaf_words,
 ]

@@ -116,6 +116,12 @@ class Curves:
             return self.total()
         return max(late - early for early, late in zip(self.sums, self.sums[slots:]))
 
+    @functools.cache
+    def late_frame(self, slots, more):
+        """The first frame with which so many frames in a row have passed a sum of memories."""
+        return next(m for m in range(1, len(self.sums)) if self.sums[m] - self.sums[max(m - slots, 0)] > more)
+
+    @functools.cache
     def shortages(self):
         """Every leaf that starves for want of room at another: T(k - its delay) passes T(k - the other's) and all the memories from the
         lowest node above both down to the other. The one that starves first comes first, then the one that misses most."""
@@ -129,8 +135,7 @@ class Curves:
 
     def shortage(self, leaf, own, term):
         later = term.delay - own
-        missing = (m for m in range(1, len(self.sums)) if self.sums[m] - self.sums[max(m - later, 0)] > term.more)
-        frame = next(missing)
+        frame = self.late_frame(later, term.more)
         most, come = self.window(later) - term.more, self.sums[max(frame - later, 0)] + term.more
         nodes = tuple(self.shared(leaf, term.leaf)[1])
         return Shortage(leaf, term.leaf, frame + own, frame, self.sums[frame], come, most, nodes)

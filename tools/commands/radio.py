@@ -5,9 +5,9 @@
 
 The link sends so many bytes in every slot until the film is through. Rates are in bytes a slot: numbers, or ranges FROM-TO:STEP; a range
 FROM-TO has 33 rates at most. For each there are the least delay up to 4,096 slots and the least memory, or 13 where no delay serves. Of
-the job the film alone is used. The wait never grows with the rate; the memory falls as long as the film is waited for, and grows again
-when it is sent before its time. The rate between them, that of the rates given that needs least memory, is named below the table and
-marked in the picture.
+the job the film alone is used. The wait never grows with the rate. A slow link needs memory for what is waited for, a fast one for what
+is sent before its time; the rate that needs least memory, of those given, is named below the table and marked in the picture, where it
+is not the slowest or the fastest of them.
 
 The status is 0 where every rate has a delay, 1 where one has none, 2 where nothing could be done."""
 import library

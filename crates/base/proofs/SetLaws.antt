@@ -70,53 +70,53 @@ differ_lt zero b h k = k
 differ_lt (suc a) zero h k = h
 differ_lt (suc a) (suc b) h k = differ_lt a b (omega arith) (omega arith)
 
-bit_and : (i a b : ℕ) → bit i (bit_and a b) ≡ min (bit i a) (bit i b)
+bit-bit_and : (i a b : ℕ) → bit i (bit_and a b) ≡ min (bit i a) (bit i b)
 unfolding bit
-bit_and zero a b = ap (λ (x : ℕ). x % 2) (and_step a b) ∙ digits_mod (bit_and (a / 2) (b / 2)) (min_lt (a % 2) (b % 2) (omega arith))
-bit_and (suc i) a b =
+bit-bit_and zero a b = ap (λ (x : ℕ). x % 2) (and_step a b) ∙ digits_mod (bit_and (a / 2) (b / 2)) (min_lt (a % 2) (b % 2) (omega arith))
+bit-bit_and (suc i) a b =
     ap (λ (x : ℕ). bit i (x / 2)) (and_step a b)
     ∙ ap (bit i) (digits_div (bit_and (a / 2) (b / 2)) (min_lt (a % 2) (b % 2) (omega arith)))
-    ∙ bit_and i (a / 2) (b / 2)
+    ∙ bit-bit_and i (a / 2) (b / 2)
 
-bit_or : (i a b : ℕ) → bit i (bit_or a b) ≡ max (bit i a) (bit i b)
+bit-bit_or : (i a b : ℕ) → bit i (bit_or a b) ≡ max (bit i a) (bit i b)
 unfolding bit
-bit_or zero a b = ap (λ (x : ℕ). x % 2) (or_step a b) ∙ digits_mod (bit_or (a / 2) (b / 2)) (max_lt (a % 2) (b % 2) (omega arith) (omega arith))
-bit_or (suc i) a b =
+bit-bit_or zero a b = ap (λ (x : ℕ). x % 2) (or_step a b) ∙ digits_mod (bit_or (a / 2) (b / 2)) (max_lt (a % 2) (b % 2) (omega arith) (omega arith))
+bit-bit_or (suc i) a b =
     ap (λ (x : ℕ). bit i (x / 2)) (or_step a b)
     ∙ ap (bit i) (digits_div (bit_or (a / 2) (b / 2)) (max_lt (a % 2) (b % 2) (omega arith) (omega arith)))
-    ∙ bit_or i (a / 2) (b / 2)
+    ∙ bit-bit_or i (a / 2) (b / 2)
 
 pub has_both : (a b i : ℕ) → has (bit_and a b) i ≡ (has a i && has b i)
 has_both a b i = go (true_or_false (has a i)) (true_or_false (has b i))
   where
     go : (has a i ≡ true) ⊎ (has a i ≡ false) → (has b i ≡ true) ⊎ (has b i ≡ false) → has (bit_and a b) i ≡ (has a i && has b i)
-    go (inl p) (inl q) = rw (p, q) (has_is (bit_and a b) i (omega (arith, bit_and i a b, bit_is a i p, bit_is b i q)))
-    go (inl p) (inr q) = rw (p, q) (has_isn't (bit_and a b) i (omega (arith, bit_and i a b, bit_isn't b i q)))
-    go (inr p) q = rw p (has_isn't (bit_and a b) i (omega (arith, bit_and i a b, bit_isn't a i p)))
+    go (inl p) (inl q) = rw (p, q) (has_is (bit_and a b) i (omega (arith, bit-bit_and i a b, bit_is a i p, bit_is b i q)))
+    go (inl p) (inr q) = rw (p, q) (has_isn't (bit_and a b) i (omega (arith, bit-bit_and i a b, bit_isn't b i q)))
+    go (inr p) q = rw p (has_isn't (bit_and a b) i (omega (arith, bit-bit_and i a b, bit_isn't a i p)))
 
 pub has_either : (a b i : ℕ) → has (bit_or a b) i ≡ (has a i || has b i)
 has_either a b i = go (true_or_false (has a i)) (true_or_false (has b i))
   where
     go : (has a i ≡ true) ⊎ (has a i ≡ false) → (has b i ≡ true) ⊎ (has b i ≡ false) → has (bit_or a b) i ≡ (has a i || has b i)
-    go (inl p) q = rw p (has_is (bit_or a b) i (omega (arith, bit_or i a b, bit_is a i p, bit_lt i b)))
-    go (inr p) (inl q) = rw (p, q) (has_is (bit_or a b) i (omega (arith, bit_or i a b, bit_isn't a i p, bit_is b i q)))
-    go (inr p) (inr q) = rw (p, q) (has_isn't (bit_or a b) i (omega (arith, bit_or i a b, bit_isn't a i p, bit_isn't b i q)))
+    go (inl p) q = rw p (has_is (bit_or a b) i (omega (arith, bit-bit_or i a b, bit_is a i p, bit_lt i b)))
+    go (inr p) (inl q) = rw (p, q) (has_is (bit_or a b) i (omega (arith, bit-bit_or i a b, bit_isn't a i p, bit_is b i q)))
+    go (inr p) (inr q) = rw (p, q) (has_isn't (bit_or a b) i (omega (arith, bit-bit_or i a b, bit_isn't a i p, bit_isn't b i q)))
 
-bit_xor : (i a b : ℕ) → bit i (bit_xor a b) ≡ differ (bit i a) (bit i b)
+bit-bit_xor : (i a b : ℕ) → bit i (bit_xor a b) ≡ differ (bit i a) (bit i b)
 unfolding bit
-bit_xor zero a b = ap (λ (x : ℕ). x % 2) (xor_step a b)
+bit-bit_xor zero a b = ap (λ (x : ℕ). x % 2) (xor_step a b)
     ∙ digits_mod (bit_xor (a / 2) (b / 2)) (differ_lt (a % 2) (b % 2) (omega arith) (omega arith))
-bit_xor (suc i) a b =
+bit-bit_xor (suc i) a b =
     ap (λ (x : ℕ). bit i (x / 2)) (xor_step a b)
     ∙ ap (bit i) (digits_div (bit_xor (a / 2) (b / 2)) (differ_lt (a % 2) (b % 2) (omega arith) (omega arith)))
-    ∙ bit_xor i (a / 2) (b / 2)
+    ∙ bit-bit_xor i (a / 2) (b / 2)
 
 -- what is in a and not in b, as the word (a | b) ^ b
 pub has-outside : (a b i : ℕ) → has (bit_xor (bit_or a b) b) i ≡ (has a i && not (has b i))
 has-outside a b i = go (true_or_false (has a i)) (true_or_false (has b i))
   where
     digit : bit i (bit_xor (bit_or a b) b) ≡ differ (max (bit i a) (bit i b)) (bit i b)
-    digit = bit_xor i (bit_or a b) b ∙ rw (bit_or i a b)
+    digit = bit-bit_xor i (bit_or a b) b ∙ rw (bit-bit_or i a b)
 
     go : (has a i ≡ true) ⊎ (has a i ≡ false) → (has b i ≡ true) ⊎ (has b i ≡ false)
         → has (bit_xor (bit_or a b) b) i ≡ (has a i && not (has b i))

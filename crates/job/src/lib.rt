@@ -1,5 +1,6 @@
 // The job of document 01: its bounds, its bytes, the reader, the running sums of its frames, and the sets of its nodes.
 // Definitions to believe: specs/Limits, Tree, Bytes, Refusal; what the types below hold: specs/Read.
+#![tactic(auto)]
 ghost use Rattle.std.specs.Prelude.{◌||◌, ◌≡◌, ℕ, ◌+◌, ◌≤◌, ◌<◌, eqb, length, get_or};
 ghost use Rattle.base.specs.Range.{some, greatest_over};
 ghost use Rattle.base.specs.Set.{has, word_bits};
@@ -18,12 +19,12 @@ ghost use Rattle.job.specs.Steps.{node_at, parents_of, empty_job, full_job, Inne
 ghost use Rattle.job.specs.Steps.{head_refusal, nodes_refusal, rest_refusal, sooner, Sized};
 
 // A frame's size in bytes.
-#[derive(Drop)]
+#[derive(Clone, Copy)]
 pub struct Frame {
     pub size: u64,
 }
 
-#[derive(Drop)]
+#[derive(Clone, Copy)]
 pub enum FrameMade {
     Made(Frame),
     TooLarge,
@@ -49,7 +50,7 @@ impl Frame {
 }
 
 // The record of a node other than the root, with the link into it.
-#[derive(Drop)]
+#[derive(Clone, Copy)]
 pub struct Node {
     pub parent: usize,
     pub delay: usize,
@@ -57,7 +58,7 @@ pub struct Node {
     pub rate: u64,
 }
 
-#[derive(Drop)]
+#[derive(Clone, Copy)]
 pub enum NodeMade {
     Made(Node),
     // The row of document 01's table of refusals: 7, 8 or 9.
@@ -110,7 +111,7 @@ impl Node {
 }
 
 // A job without its frames, which stay in the bytes. Place i of each array is node i's; places without a record have 0.
-#[derive(Drop)]
+#[derive(Clone, Copy)]
 pub struct Job {
     pub nodes: usize,
     pub frames: usize,
@@ -121,7 +122,7 @@ pub struct Job {
 }
 
 // A refusal with its number, and then the job is all 0; or 0 and the job.
-#[derive(Drop)]
+#[derive(Clone, Copy)]
 pub struct Reading {
     pub refusal: u64,
     pub job: Job,
@@ -496,7 +497,7 @@ pub fn refusal(s: &[u8]) -> u64
 
 // What the lengths of outputs follow from: n, M, H and the plan's length; or a refusal with its number, and then each is 0. In C too.
 #[repr(C)]
-#[derive(Drop)]
+#[derive(Clone, Copy)]
 pub struct JobSizes {
     pub number: u64,
     pub nodes: usize,
@@ -593,7 +594,7 @@ fn write_sums(s: &[u8], out: &mut [u64])
 
 // Every bound at once. Each is the constant of its type, and the number that specs/Limits has; so is each refusal, whose number
 // specs/Refusal has.
-#[derive(Drop)]
+#[derive(Clone, Copy)]
 pub struct Limits {
     pub fewest_nodes: usize,
     pub most_nodes: usize,
@@ -608,25 +609,25 @@ pub struct Limits {
 impl Limits {
     pub fn all() -> Limits
         ensures value { result ≡ limits }
-        ensures* do_value { do ⌜ (← (⟦Job::FEWEST_NODES⟧).entry) ≡ limit.fewest_nodes ⌝ }
-        ensures* do_value_2 { do ⌜ (← (⟦Job::MOST_NODES⟧).entry) ≡ limit.most_nodes ⌝ }
-        ensures* do_value_3 { do ⌜ (← (⟦Job::FEWEST_FRAMES⟧).entry) ≡ limit.fewest_frames ⌝ }
-        ensures* do_value_4 { do ⌜ (← (⟦Job::MOST_FRAMES⟧).entry) ≡ limit.most_frames ⌝ }
-        ensures* do_value_5 { do ⌜ (← (⟦Node::LONGEST_DELAY⟧).entry) ≡ limit.longest_delay ⌝ }
-        ensures* do_value_6 { do ⌜ (← (⟦Node::GREATEST_MEMORY⟧).entry) ≡ limit.greatest_memory ⌝ }
-        ensures* do_value_7 { do ⌜ (← (⟦Node::GREATEST_RATE⟧).entry) ≡ limit.greatest_rate ⌝ }
-        ensures* do_value_8 { do ⌜ (← (⟦Frame::GREATEST⟧).entry) ≡ limit.greatest_frame ⌝ }
-        ensures* do_value_9 { do ⌜ (← (⟦Job::SHORT⟧).entry) ≡ refused.short ⌝ }
-        ensures* do_value_10 { do ⌜ (← (⟦Job::BAD_MARK⟧).entry) ≡ refused.bad_mark ⌝ }
-        ensures* do_value_11 { do ⌜ (← (⟦Job::BAD_VERSION⟧).entry) ≡ refused.bad_version ⌝ }
-        ensures* do_value_12 { do ⌜ (← (⟦Job::BAD_NODES⟧).entry) ≡ refused.bad_nodes ⌝ }
-        ensures* do_value_13 { do ⌜ (← (⟦Job::BAD_FRAMES⟧).entry) ≡ refused.bad_frames ⌝ }
-        ensures* do_value_14 { do ⌜ (← (⟦Job::BAD_LENGTH⟧).entry) ≡ refused.bad_length ⌝ }
-        ensures* do_value_15 { do ⌜ (← (⟦Node::BAD_PARENT⟧).entry) ≡ refused.bad_parent ⌝ }
-        ensures* do_value_16 { do ⌜ (← (⟦Node::BAD_DELAY⟧).entry) ≡ refused.bad_delay ⌝ }
-        ensures* do_value_17 { do ⌜ (← (⟦Node::LARGE_MEMORY⟧).entry) ≡ refused.large_memory ⌝ }
-        ensures* do_value_18 { do ⌜ (← (⟦Frame::LARGE_FRAME⟧).entry) ≡ refused.large_frame ⌝ }
-        ensures* do_value_19 { do ⌜ (← (⟦Job::BAD_LENT⟧).entry) ≡ refused.bad_lent ⌝ }
+        ensures fewest_nodes { Job.FEWEST_NODES ≡ limit.fewest_nodes }
+        ensures most_nodes { Job.MOST_NODES ≡ limit.most_nodes }
+        ensures fewest_frames { Job.FEWEST_FRAMES ≡ limit.fewest_frames }
+        ensures most_frames { Job.MOST_FRAMES ≡ limit.most_frames }
+        ensures longest_delay { Node.LONGEST_DELAY ≡ limit.longest_delay }
+        ensures greatest_memory { Node.GREATEST_MEMORY ≡ limit.greatest_memory }
+        ensures greatest_rate { Node.GREATEST_RATE ≡ limit.greatest_rate }
+        ensures greatest_frame { Frame.GREATEST ≡ limit.greatest_frame }
+        ensures short { Job.SHORT ≡ refused.short }
+        ensures bad_mark { Job.BAD_MARK ≡ refused.bad_mark }
+        ensures bad_version { Job.BAD_VERSION ≡ refused.bad_version }
+        ensures bad_nodes { Job.BAD_NODES ≡ refused.bad_nodes }
+        ensures bad_frames { Job.BAD_FRAMES ≡ refused.bad_frames }
+        ensures bad_length { Job.BAD_LENGTH ≡ refused.bad_length }
+        ensures bad_parent { Node.BAD_PARENT ≡ refused.bad_parent }
+        ensures bad_delay { Node.BAD_DELAY ≡ refused.bad_delay }
+        ensures large_memory { Node.LARGE_MEMORY ≡ refused.large_memory }
+        ensures large_frame { Frame.LARGE_FRAME ≡ refused.large_frame }
+        ensures bad_lent { Job.BAD_LENT ≡ refused.bad_lent }
     {
         Limits {
             fewest_nodes: Job::FEWEST_NODES,

@@ -1,5 +1,6 @@
 // Passes over a film at given rates: the least delay with which a rate is in time, and the most that what is played gets ahead of it.
 // It knows no tree and no bytes, only the sums T(0) to T(M) and rates. Definitions to believe: specs/Pace.
+#![tactic(auto)]
 ghost use Rattle.std.specs.Prelude.{◌≡◌, ◌+◌, ◌-◌, ◌*◌, ◌≤◌, ◌<◌, max, min, length, get_or};
 ghost use Rattle.base.specs.Range.{greatest};
 ghost use Rattle.base.specs.Table.{tab};
@@ -79,14 +80,14 @@ pub fn start_delay(sums: &[u64], r: u64) -> u64
 }
 
 // How far what is played is ahead of a rate, and the most that it has been, up to some slot: specs/Pace says what the two numbers are.
-#[derive(Drop)]
+#[derive(Clone, Copy)]
 pub struct Lead {
     pub ahead: u64,
     pub most: u64,
 }
 
 // Four numbers: rates or needs.
-#[derive(Drop)]
+#[derive(Clone, Copy)]
 pub struct Four {
     pub a: u64,
     pub b: u64,
@@ -107,7 +108,7 @@ fn lead_after(lead: Lead, played: u64, slots: u64, r: u64) -> Lead
 }
 
 // How many places a pass has to stop at, and the largest frame.
-#[derive(Drop)]
+#[derive(Clone, Copy)]
 pub struct Stops {
     pub count: usize,
     pub largest: u64,
@@ -177,7 +178,7 @@ fn four_needs(sums: &[u64], places: &[u64], count: usize, largest: u64, r: Four)
 }
 
 // A stop of a pass at one rate, what is played by it and the lead there.
-#[derive(Drop)]
+#[derive(Clone, Copy)]
 pub struct Stop {
     pub at: u64,
     pub sum: u64,
@@ -196,7 +197,7 @@ fn next_stop(sums: &[u64], to: u64, r: u64, s: Stop) -> Stop
 
 // What `leave_out_low_peaks` knows at a place, of a lead at the lowest rate: the last of the places that are left so far, the peak among
 // them, the least lead since that peak, and how high the lead may get without being a new peak.
-#[derive(Drop)]
+#[derive(Clone, Copy)]
 pub struct SincePeak {
     pub last: usize,
     pub peak: usize,
@@ -261,7 +262,7 @@ fn leave_out_low_peaks(
 
 // What `leave_out_dips` knows at a place, of a lead at the highest rate: the last of the places that are left so far, the valley among
 // them, the lead at that valley, and the greatest lead since.
-#[derive(Drop)]
+#[derive(Clone, Copy)]
 pub struct SinceValley {
     pub last: usize,
     pub valley: usize,

@@ -1,5 +1,6 @@
 // The memory question: from memories to what every link sends in every slot; and the row of one link.
 // Definitions to believe: specs/Rules (the rules of a plan and the best plan), specs/Answer (what the functions below give).
+#![tactic(auto)]
 ghost use Rattle.std.specs.Prelude.{true, false, ◌≡◌, ◌-◌, length};
 ghost use Rattle.job.specs.Limits.{most_slots};
 ghost use Rattle.job.specs.Read.{tree_in, Accepted};
@@ -13,7 +14,7 @@ ghost use Rattle.planner.specs.Answer.{row_place, row_of, Answers};
 use job::Job;
 
 // The answer of the memory question: a refusal by its number, or H and T(M).
-#[derive(Drop)]
+#[derive(Clone, Copy)]
 pub enum Answer {
     Refused(u64),
     Planned(u64, u64),
@@ -187,7 +188,7 @@ pub fn memory_question(bytes: &[u8], plan: &mut [u64], peaks: &mut [u64]) -> Ans
 }
 
 // Where a row lies in a plan: its first place, and how many slots it has; 0 twice where there is none.
-#[derive(Drop)]
+#[derive(Clone, Copy)]
 pub struct Place {
     pub start: usize,
     pub slots: usize,

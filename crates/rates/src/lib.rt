@@ -1,6 +1,7 @@
 // The rate question: from rates to the least start delay and the least memories.
 // Definitions to believe: specs/Rates (floor rate, w, need, memories, what serves), Choice of smoothing (the memories from the needs),
 // specs/Answer (what the function below gives).
+#![tactic(auto)]
 ghost use Rattle.std.specs.Prelude.{true, ◌≡◌, suc, ◌+◌, ◌-◌, ◌≤◌, ◌<◌, min, length, get_or};
 ghost use Rattle.base.specs.Range.{fold, two_least};
 ghost use Rattle.base.specs.Set.{has, word_bits};
@@ -15,7 +16,7 @@ ghost use Rattle.rates.specs.Work.{floors_of, NeedsWithin, handed_by, memory_by,
 use job::{Job, Node};
 
 // The answer of the rate question: a refusal by its number, or w and the total.
-#[derive(Drop)]
+#[derive(Clone, Copy)]
 pub enum Sizing {
     Refused(u64),
     Sized(u64, u64),

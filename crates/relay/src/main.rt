@@ -1,5 +1,6 @@
 // The program: reads a job from standard input and prints both answers to it. Everything that is printed comes from `answer`, which
 // says what the text is; reading and writing are thin. Definitions to believe: specs/Decimal, Text, Printed.
+#![tactic(auto)]
 ghost use Rattle.std.specs.Prelude.{[], ◌∷◌, ◌++◌, ◌≡◌, ◌+◌, ◌-◌, ◌*◌, ◌≤◌, ◌<◌, length, take, drop};
 ghost use Rattle.io.specs.Counts.{IsPrefixLen};
 ghost use Rattle.base.specs.Table.{rows_of};
@@ -257,7 +258,7 @@ fn text_room() -> [u8; TEXT_ROOM]
 }
 
 // How many bytes were read, and whether a read failed.
-#[derive(Drop)]
+#[derive(Clone, Copy)]
 struct Input {
     count: usize,
     failed: bool,

@@ -1,4 +1,5 @@
 // The C interface, declared to C in include/relay.h: thin calls, each with the whole contract of the function that it calls.
+#![tactic(auto)]
 ghost use Rattle.std.specs.Prelude.{◌≡◌, length};
 ghost use Rattle.base.specs.Table.{tab};
 ghost use Rattle.job.specs.Steps.{or_else};
@@ -35,7 +36,7 @@ pub extern "C" fn relay_version() -> u64
 
 // Every bound, the length of a running tree and of a line, so that a header's constants can be held against them.
 #[repr(C)]
-#[derive(Drop)]
+#[derive(Clone, Copy)]
 pub struct LibraryLimits {
     pub fewest_nodes: usize,
     pub most_nodes: usize,
@@ -90,7 +91,7 @@ pub extern "C" fn relay_job_sizes(job: &[u8]) -> JobSizes
 
 // What the memory question returns: document 01's number, H and T(M).
 #[repr(C)]
-#[derive(Drop)]
+#[derive(Clone, Copy)]
 pub struct MemoryAnswer {
     pub number: u64,
     pub last_slot: u64,
@@ -124,7 +125,7 @@ pub extern "C" fn relay_memory_question(
 
 // Where a row lies in a plan: its first place, and how many slots it has; 0 twice where there is none.
 #[repr(C)]
-#[derive(Drop)]
+#[derive(Clone, Copy)]
 pub struct Row {
     pub start: usize,
     pub slots: usize,
@@ -144,7 +145,7 @@ pub extern "C" fn relay_row_of(job: &[u8], planned: usize, link: usize) -> Row
 
 // What the rate question returns: document 01's number, w and the total.
 #[repr(C)]
-#[derive(Drop)]
+#[derive(Clone, Copy)]
 pub struct RateAnswer {
     pub number: u64,
     pub delay: u64,
@@ -189,7 +190,7 @@ pub extern "C" fn relay_put_back(job: &mut [u8], delay: u64, memories: &[u64]) -
 
 // What a step gives: the number of its outcome, and the link that 14 names.
 #[repr(C)]
-#[derive(Drop)]
+#[derive(Clone, Copy)]
 pub struct StepAnswer {
     pub number: u64,
     pub link: u64,

@@ -1,5 +1,6 @@
 // Rows of numbers, one for each slot: lazy rows, the search for a least peak, and rows closed over a tree of links.
 // It knows no job: only slices, and the theory in `smoothing`. Definitions to believe: specs/Row, Search, Closing.
+#![tactic(auto)]
 ghost use Rattle.std.specs.Prelude.{◌≡◌, ℕ, ◌+◌, ◌-◌, ◌*◌, ◌≤◌, ◌<◌, max, min, length};
 ghost use Rattle.base.specs.Table.{tab};
 ghost use Rattle.smoothing.specs.Row.{ceil_div};
@@ -60,7 +61,7 @@ fn ceil_div(x: u64, d: u64) -> u64
 }
 
 // Where a pass of the search for a least peak stands: specs/Newton of `smoothing` says what each number is.
-#[derive(Drop)]
+#[derive(Clone, Copy)]
 pub struct Search {
     pub reach: u64,
     pub gap: u64,

@@ -1,5 +1,6 @@
 // The running tree: a value that each slot hands on, which takes a column of any plan just when that column keeps the rules.
 // Definitions to believe: specs/Running, with the rules of one column in planner/specs/Rules.
+#![tactic(auto)]
 ghost use Rattle.std.specs.Prelude.{Bool, true, false, ◌||◌, ◌≡◌, ℕ, suc, ◌+◌, ◌-◌, ◌*◌, ◌≤◌, ◌<◌, max, ltb, length, get_or};
 ghost use Rattle.base.specs.Range.{fold};
 ghost use Rattle.base.specs.Set.{has, word_bits};
@@ -17,14 +18,14 @@ use job::Job;
 
 // A running tree: the slot number, and what each node has been sent by then.
 #[repr(C)]
-#[derive(Drop)]
+#[derive(Clone, Copy)]
 pub struct Running {
     pub slot: u64,
     pub carried: [u64; Job::MOST_NODES],
 }
 
 // What became of a step: a refusal has its number, and the link that 14 names.
-#[derive(Drop)]
+#[derive(Clone, Copy)]
 pub enum Outcome {
     Taken,
     Done,
@@ -38,7 +39,7 @@ impl Outcome {
 }
 
 // The running tree that a step hands on, with what became of it.
-#[derive(Drop)]
+#[derive(Clone, Copy)]
 pub struct Step {
     pub state: Running,
     pub outcome: Outcome,

@@ -1,6 +1,7 @@
 // A byte store over one lent slice: bytes are appended once, each child takes them in stream order at its own pace, and a byte's space
 // is free once the last child has taken it. A store is numbers only, handed back by value. It knows no job.
 // Definitions to believe: specs/Store, and specs/Run for calls in a row.
+#![tactic(auto)]
 ghost use Rattle.std.specs.Prelude.{◌≡◌, ℕ, ◌+◌, ◌^◌, ◌≤◌, ◌<◌, ltb, length, get_or};
 ghost use Rattle.base.specs.Range.{some};
 ghost use Rattle.base.specs.Table.{tab};
@@ -9,7 +10,7 @@ ghost use Rattle.store.specs.Store.{written, Starts, Appends, Takes};
 
 // The slice's length at the start, the child count, the place where the next byte is written, and how many bytes wait for each child.
 #[repr(C)]
-#[derive(Drop)]
+#[derive(Clone, Copy)]
 pub struct Store {
     pub length: usize,
     pub children: usize,
@@ -28,7 +29,7 @@ impl Store {
 }
 
 // The store that a call leaves, with its number.
-#[derive(Drop)]
+#[derive(Clone, Copy)]
 pub struct Answer {
     pub store: Store,
     pub number: u64,

@@ -1,5 +1,6 @@
 // Runs document 01's cases that are run and not proved: those that concern reading, with what each job is refused with (0: it is read),
 // and rate 0 with a frame above 0; and beside them starred cases of both questions, in the form of the program's lines.
+#![tactic(auto)]
 ghost use Rattle.std.specs.Prelude.{◌≡◌, ◌<◌, length};
 
 use planner::Answer;

@@ -1,0 +1,5 @@
+use Rattle.base.proofs.SetLaws.{has_both}
+use Rattle.base.proofs.common.Goals as goal
+
+pub returns : goal.returns
+returns c = λ j. has_both _ _ j

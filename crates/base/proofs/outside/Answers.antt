@@ -1,0 +1,5 @@
+use Rattle.base.proofs.SetLaws.{has-outside}
+use Rattle.base.proofs.outside.Goals as goal
+
+pub returns : goal.returns
+returns c = λ j. has-outside _ _ j

@@ -1,0 +1,9 @@
+use borrow.Author.Rules.{rules}
+use Rattle.base.proofs.SetLaws.{has_with, has_without}
+use Rattle.base.proofs.with.Goals as goal
+
+pub returns-then-i-lt-WORD_BITS : goal.returns-then-i-lt-WORD_BITS
+returns-then-i-lt-WORD_BITS c = has_with c.args.s c.args.i c.if-i-lt-WORD_BITS.true
+
+pub returns : goal.returns
+returns c = has_without c.args.s c.args.i c.if-i-lt-WORD_BITS.false

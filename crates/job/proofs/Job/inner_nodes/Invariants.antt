@@ -1,0 +1,18 @@
+use mathlib.Core.Path.{◌≡◌, refl, ap, sym, ◌∙◌}
+use mathlib.Core.Bool.{Bool, ◌&&◌}
+use Prim.Native.Nat.{◌-◌, ◌≤◌, ◌<◌}
+use native.Mathlib.Omega.{arith}
+use lib.Dec.{ltb}
+use borrow.Author.Rules.{rules}
+use Rattle.base.proofs.CollectLaws.{Passing, passing_none, passing_more}
+use Rattle.base.specs.Set.{word_bits}
+use Rattle.base.specs.Range.{some}
+use Rattle.job.proofs.TreeLaws.{shape, parents-none, parents_more}
+use Rattle.job.specs.Tree.{child, has_child}
+use Rattle.job.proofs.Job.inner_nodes.Given as goal
+
+abbrev pub invariant-loop-i : goal.invariant-loop-i
+invariant-loop-i l = (0 < l.i) × ((l.i ≤ l.nodes) × Passing (λ k. some (λ c. child (shape l.nodes l.parent) c k) l.i) l.set)
+
+abbrev pub decreases-loop-i : goal.decreases-loop-i
+decreases-loop-i l = l.nodes - l.i

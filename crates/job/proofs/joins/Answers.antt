@@ -1,0 +1,10 @@
+use mathlib.Core.Path.{sym, ◌∙◌, refl}
+use borrow.Author.Tests.{eq-eqb, ne_eqb}
+use borrow.Author.Rules.{rules}
+use Rattle.job.proofs.joins.Goals as goal
+
+pub returns-then-parent-a : goal.returns-then-parent-a
+returns-then-parent-a c = rw (eq-eqb _ _ c.if-parent-a.true) refl
+
+pub returns : goal.returns
+returns c = c.member.ensures ∙ sym (rw (ne_eqb _ _ c.if-parent-a.false) refl)

@@ -1,0 +1,25 @@
+use mathlib.Core.Path.{◌≡◌, refl, ap, ◌∙◌}
+use mathlib.Core.List.{List}
+use Prim.Native.Nat.{ℕ, ◌+◌, ◌-◌, ◌≤◌, ◌<◌}
+use native.Mathlib.Omega.{arith}
+use lib.ListN.{length, set}
+use borrow.Author.Rules.{rules}
+use Rattle.base.specs.Table.{tab}
+use Rattle.job.specs.declared.Job.{Job}
+use Rattle.job.proofs.ReadLaws.{record_in, fields_none, fields_more}
+use Rattle.job.specs.Read.{struct_of}
+use Rattle.job.specs.Bytes.{record_width, node_count, frame_count, parent_at, per_node}
+use Rattle.job.specs.Tree.{Tree}
+use Rattle.job.specs.Limits.{most_nodes}
+use Rattle.job.proofs.read_parents.Given as goal
+
+-- the parents of the nodes below i
+abbrev pub parents_to : List ℕ → ℕ → Tree
+parents_to s i = record { n = node_count s; parent = per_node i (parent_at s); delay = λ k. 0; memory = λ k. 0; rate = λ k. 0 }
+
+abbrev pub invariant-loop-i : goal.invariant-loop-i
+invariant-loop-i l =
+    (l.nodes ≡ node_count l.s) × ((0 < l.i) × ((l.i ≤ l.nodes) × (l.out ≡ struct_of (parents_to l.s l.i) (frame_count l.s))))
+
+abbrev pub decreases-loop-i : goal.decreases-loop-i
+decreases-loop-i l = l.nodes - l.i

@@ -1,0 +1,6 @@
+use borrow.Author.Rules.{rules}
+use Rattle.job.proofs.RefusalLaws.{read_number}
+use Rattle.job.proofs.refusal.Goals as goal
+
+pub returns : goal.returns
+returns c = read_number _ _ c.read.ensures

@@ -1,0 +1,24 @@
+use mathlib.Core.Path.{◌≡◌, ap, sym, ◌∙◌}
+use mathlib.Core.List.{List, ◌++◌}
+use Prim.Native.Nat.{ℕ, ◌+◌, ◌-◌}
+use lib.ListN.{length, take}
+use lib.Seq.{take_at, length-take-le}
+use Rattle.base.proofs.TableLaws.{length-tab}
+use Rattle.job.specs.Tree.{T}
+use Rattle.job.specs.Bytes.{job_of}
+use native.Mathlib.Omega.{arith}
+use borrow.Author.Rules.{rules}
+use Rattle.job.proofs.write_sums.Reads as write-sums-reads
+use Rattle.job.proofs.sums.Goals as goal
+
+pub write_sums-requires : goal.write_sums-requires
+write_sums-requires c =
+    let count = c.args.job.frames + 1 - 0 in
+    (c.requires.0.none, length-take-le count c.args.room.now (omega (arith, c.requires.1)) ∙ omega (arith, c.requires.0.frames))
+
+pub returns : goal.returns
+returns c =
+    let w = c.write_sums in
+    let s = c.args.bytes.now in
+    let long : length w.new.out ≡ c.args.job.frames + 1 - 0 = ap length w.ensures ∙ length-tab (T (job_of s)) _ ∙ omega (arith, c.requires.0.frames) in
+    take_at w.new.out _ (c.args.job.frames + 1 - 0) long ∙ w.ensures

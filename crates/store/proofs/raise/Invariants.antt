@@ -1,0 +1,14 @@
+use mathlib.Core.Path.{◌≡◌}
+use Prim.Native.Nat.{◌+◌, ◌-◌}
+use lib.ListN.{length, get_or}
+use Rattle.base.specs.Table.{Filled}
+use Rattle.base.proofs.TableLaws.{filled_none, filled_more, filled-ahead, filled-done}
+use borrow.Author.Rules.{rules}
+use native.Mathlib.Omega.{arith}
+use Rattle.store.proofs.raise.Given as goal
+
+abbrev pub invariant-loop-c : goal.invariant-loop-c
+invariant-loop-c l = Filled (λ d. get_or l.initial.counts d 0 + l.n) l.c l.initial.counts l.counts
+
+abbrev pub decreases-loop-c : goal.decreases-loop-c
+decreases-loop-c l = length l.initial.counts - l.c

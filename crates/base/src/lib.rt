@@ -1,6 +1,7 @@
 // What every crate above leans on: the larger, the smaller and the difference of two numbers, numbers in bytes, sets of numbers as
 // 64-bit words, tables (specs/ alone). It knows no job.
 #![tactic(auto)]
+
 ghost use Rattle.std.specs.Prelude.{cond, not, ◌&&◌, ◌||◌, ◌≡◌, ℕ, ◌+◌, ◌-◌, ◌^◌, ◌≤◌, ◌<◌, max, min, eqb, ltb, length};
 ghost use Rattle.base.specs.Number.{number};
 ghost use Rattle.base.specs.Range.{how_many, first};

@@ -15,7 +15,7 @@ use Rattle.job.specs.Limits.{fewest_nodes, most_nodes, fewest_frames, most_frame
 use Rattle.job.specs.Tree.{Tree, TreeWithin, JobWithin, link, child, has_child, leaf}
 use Rattle.job.specs.Bytes.{mark_rLY, version_one, header_width, mark, version, node_count, frame_count, frame_at, wanted_length, tree_of, job_of}
 use Rattle.job.specs.Refusal.{outside, parent_wrong, delay_wrong, amount_wrong, frame_wrong, some_node, refusal}
-use Rattle.job.specs.Read.{Accepted, struct_of, refused_with, refused_or, read_of, tree_in, job_in, size_refusal}
+use Rattle.job.specs.Read.{Accepted, struct_of, refused_with, refused_or, read_of, tree_in, size_refusal}
 use Rattle.job.specs.Steps.{parents_of, or_else, head_refusal, nodes_refusal, rest_refusal, Sized}
 use Rattle.job.specs.declared.Job.{Job}
 use Rattle.job.specs.declared.Reading.{Reading}

@@ -1,6 +1,7 @@
 // The job of document 01: its bounds, its bytes, the reader, the running sums of its frames, and the sets of its nodes.
 // Definitions to believe: specs/Limits, Tree, Bytes, Refusal; what the types below hold: specs/Read.
 #![tactic(auto)]
+
 ghost use Rattle.std.specs.Prelude.{◌||◌, ◌≡◌, ℕ, ◌+◌, ◌≤◌, ◌<◌, eqb, length, get_or};
 ghost use Rattle.base.specs.Range.{some, greatest_over};
 ghost use Rattle.base.specs.Set.{has, word_bits};

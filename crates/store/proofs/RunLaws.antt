@@ -3,7 +3,7 @@ use mathlib.Core.Bool.{true, false, cond, not, ◌||◌}
 use mathlib.Core.List.{List, [], ◌++◌, append_assoc}
 use mathlib.Core.Path.{◌≡◌, refl, ap, sym, ◌∙◌}
 use mathlib.Core.Logic.{inl, inr, ◌⊎◌}
-use Prim.Native.Nat.{ℕ, ◌+◌, ◌-◌, ◌≤◌, ◌<◌}
+use Prim.Native.Nat.{ℕ, ◌-◌, ◌≤◌, ◌<◌}
 use native.Mathlib.Decide.{ℕ_discrete}
 use native.Mathlib.Omega.{arith}
 use lib.Dec.{eqb, ltb}
@@ -14,7 +14,7 @@ use Rattle.base.proofs.BoolLaws.{true_or_false, or_right, or_false}
 use Rattle.base.proofs.RangeLaws.{greatest_cong}
 use Rattle.base.proofs.TableLaws.{length-tab, get_or-tab}
 use Rattle.store.specs.Store.{bad_store, not_waiting, most_children, waiting_for, waiting_bytes, free, impossible, unfit, start_number}
-use Rattle.store.specs.Store.{append_number, take_number, started, appended, taken, Starts, Appends, Takes}
+use Rattle.store.specs.Store.{append_number, take_number, started, taken, Starts, Appends, Takes}
 use Rattle.store.specs.Run.{received_by, Run, start, append, take as takes, Serves}
 use Rattle.store.specs.declared.Store.{Store}
 use Rattle.store.proofs.CallLaws.{past, append-answered, append-refused, Takeable, take-answered, take-refused}

@@ -2,6 +2,7 @@
 // is free once the last child has taken it. A store is numbers only, handed back by value. It knows no job.
 // Definitions to believe: specs/Store, and specs/Run for calls in a row.
 #![tactic(auto)]
+
 ghost use Rattle.std.specs.Prelude.{◌≡◌, ℕ, ◌+◌, ◌^◌, ◌≤◌, ◌<◌, ltb, length, get_or};
 ghost use Rattle.base.specs.Range.{some};
 ghost use Rattle.base.specs.Table.{tab};

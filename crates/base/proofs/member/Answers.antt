@@ -1,6 +1,5 @@
 use mathlib.Core.Path.{sym, refl}
 use native.Mathlib.Omega.{arith}
-use borrow.Author.Rules.{rules}
 use Rattle.base.specs.Set.{has}
 use Rattle.base.proofs.SetLaws.{has_past}
 use Rattle.base.proofs.member.Goals as goal

@@ -1,6 +1,5 @@
 use native.Mathlib.Nat.{add-zero}
 use native.Mathlib.Omega.{arith}
-use borrow.Author.Rules.{rules}
 use Rattle.base.specs.Number.{number}
 use Rattle.base.proofs.number4_at.Goals as goal
 

@@ -1,4 +1,3 @@
-use borrow.Author.Rules.{rules}
 use Rattle.base.proofs.SetLaws.{has_with, has_without}
 use Rattle.base.proofs.with.Goals as goal
 

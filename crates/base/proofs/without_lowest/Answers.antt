@@ -1,7 +1,6 @@
 use mathlib.Core.Path.{refl}
 use native.Mathlib.Omega.{arith}
 use lib.Bits.{and_le_r}
-use borrow.Author.Rules.{rules}
 use Rattle.base.proofs.SetLaws.{has_cleared, has-none}
 use Rattle.base.proofs.without_lowest.Goals as goal
 

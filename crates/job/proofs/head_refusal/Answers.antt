@@ -1,6 +1,5 @@
 use mathlib.Core.Path.{sym, ◌∙◌}
 use borrow.Author.Tests.{lt-ltb, le-ltb, eq-eqb, ne_eqb}
-use borrow.Author.Rules.{rules}
 use Rattle.job.specs.Bytes.{mark, version, mark_rLY, version_one}
 use Rattle.job.proofs.head_refusal.Goals as goal
 

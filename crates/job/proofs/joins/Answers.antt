@@ -1,6 +1,5 @@
 use mathlib.Core.Path.{sym, ◌∙◌, refl}
 use borrow.Author.Tests.{eq-eqb, ne_eqb}
-use borrow.Author.Rules.{rules}
 use Rattle.job.proofs.joins.Goals as goal
 
 pub returns-then-parent-a : goal.returns-then-parent-a

@@ -1,11 +1,9 @@
-use Prim.Native.Nat.{◌<◌, max}
+use Prim.Native.Nat.{◌<◌}
 use native.Mathlib.Omega.{arith}
-use lib.ListN.{get_or}
-use borrow.Author.Rules.{rules}
 use Rattle.base.specs.Set.{has, word_bits}
 use Rattle.base.specs.Range.{first}
 use Rattle.base.proofs.SetLaws.{first_lt}
-use Rattle.base.proofs.WalkLaws.{Walked, walk_start, walk_next, walk_done}
+use Rattle.base.proofs.WalkLaws.{walk_start, walk_next, walk_done}
 use Rattle.job.proofs.longest.Goals as goal
 use Rattle.job.proofs.longest.Goals.{In-loop-rest}
 

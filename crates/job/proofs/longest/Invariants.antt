@@ -1,11 +1,6 @@
-use Prim.Native.Nat.{◌<◌, max}
-use native.Mathlib.Omega.{arith}
+use Prim.Native.Nat.{max}
 use lib.ListN.{get_or}
-use borrow.Author.Rules.{rules}
-use Rattle.base.specs.Set.{has, word_bits}
-use Rattle.base.specs.Range.{first}
-use Rattle.base.proofs.SetLaws.{first_lt}
-use Rattle.base.proofs.WalkLaws.{Walked, walk_start, walk_next, walk_done}
+use Rattle.base.proofs.WalkLaws.{Walked}
 use Rattle.job.proofs.longest.Given as goal
 
 abbrev pub invariant-loop-rest : goal.invariant-loop-rest

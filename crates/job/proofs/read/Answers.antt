@@ -2,7 +2,6 @@ use mathlib.Core.Path.{◌≡◌, refl, ap, sym, ◌∙◌}
 use Prim.Native.Nat.{ℕ, ◌+◌, ◌*◌, ◌≤◌}
 use native.Mathlib.Omega.{arith}
 use borrow.Author.Tests.{ne_eqb}
-use borrow.Author.Rules.{rules}
 use Rattle.job.proofs.RefusalLaws.{refused_or-number, sizes_in, read_refused, head_long, at_head, at_size, at_length, at_rest}
 use Rattle.job.specs.declared.Reading.{Reading}
 use Rattle.job.specs.declared.Job.{Job}

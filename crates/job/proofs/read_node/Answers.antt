@@ -2,7 +2,6 @@ use mathlib.Core.Path.{refl, ◌∙◌}
 use Prim.Native.Nat.{◌+◌, ◌≤◌}
 use native.Mathlib.Omega.{arith}
 use lib.ListN.{length}
-use borrow.Author.Rules.{rules}
 use Rattle.job.proofs.ReadLaws.{record_in}
 use Rattle.job.specs.Bytes.{record_width, parent_at, delay_at, memory_at, rate_at}
 use Rattle.job.proofs.read_node.Goals as goal

@@ -1,10 +1,8 @@
 use mathlib.Core.Bool.{not}
-use mathlib.Core.Logic.{⊎_elim}
 use mathlib.Core.Path.{◌≡◌, refl, ap, sym, ◌∙◌}
-use Prim.Native.Nat.{ℕ, ◌-◌, ◌≤◌, ◌<◌}
+use Prim.Native.Nat.{ℕ, ◌<◌}
 use native.Mathlib.Omega.{arith}
 use borrow.Author.Tests.{ne_eqb}
-use borrow.Author.Rules.{rules}
 use Rattle.job.specs.Read.{node_refusal, struct_of}
 use Rattle.job.specs.Steps.{node_at, nodes_refusal, sooner}
 use Rattle.job.specs.Tree.{leaf}
@@ -41,39 +39,39 @@ loop-i-preserved c =
     ap not c.member.ensures ∙ leaf_of_set t c.args.inner i c.requires.0.nodes_to c.requires.1.1 inside in
     let next = row_more s i l.invariant.1.0 inside in
     elim c.match-read_node.branch [
-      in-Made w ↦
-        let made = made_is i (not c.member.result) (node_at s i) w.in-Made.node (sym w.in-Made.ensures) in
-        let none : node_refusal i (leaf t i) (node_at s i) ≡ 0 = rw is_leaf at made.0 in (
-          l.invariant.0,
-          (
-            omega arith,
+      | in-Made w ↦
+          let made = made_is i (not c.member.result) (node_at s i) w.in-Made.node (sym w.in-Made.ensures) in
+          let none : node_refusal i (leaf t i) (node_at s i) ≡ 0 = rw is_leaf at made.0 in (
+            l.invariant.0,
             (
               omega arith,
               (
-                w.refusal-is ∙ l.invariant.1.1.1.0 ∙ sym (next ∙ ap (sooner (row_to t i)) none ∙ sooner-none (row_to t i)),
-                λ q. w.out-is
-                    ∙ ap (λ (j : Job). stored j i w.in-Made.node) (l.invariant.1.1.1.1 (sym w.refusal-is ∙ q))
-                    ∙ ap (stored (struct_of (tree_to s i) (frame_count s)) i) (sym made.1)
-                    ∙ records_more s i l.invariant.1.0 (omega (arith, c.requires.0.nodes_to)),
+                omega arith,
+                (
+                  w.refusal-is ∙ l.invariant.1.1.1.0 ∙ sym (next ∙ ap (sooner (row_to t i)) none ∙ sooner-none (row_to t i)),
+                  λ q. w.out-is
+                      ∙ ap (λ (j : Job). stored j i w.in-Made.node) (l.invariant.1.1.1.1 (sym w.refusal-is ∙ q))
+                      ∙ ap (stored (struct_of (tree_to s i) (frame_count s)) i) (sym made.1)
+                      ∙ records_more s i l.invariant.1.0 (omega (arith, c.requires.0.nodes_to)),
+                ),
               ),
             ),
-          ),
-        )
-    | in-Refused w ↦
-        let refused = refused_is i (not c.member.result) (node_at s i) w.in-Refused.row (sym w.in-Refused.ensures) in
-        let some-row : node_refusal i (leaf t i) (node_at s i) ≡ w.in-Refused.row = rw is_leaf at refused.0 in (
-          l.invariant.0,
-          (
-            omega arith,
+          )
+      | in-Refused w ↦
+          let refused = refused_is i (not c.member.result) (node_at s i) w.in-Refused.row (sym w.in-Refused.ensures) in
+          let some-row : node_refusal i (leaf t i) (node_at s i) ≡ w.in-Refused.row = rw is_leaf at refused.0 in (
+            l.invariant.0,
             (
               omega arith,
               (
-                w.refusal-is ∙ w.earlier-refusal.ensures ∙ ap (λ (a : ℕ). sooner a w.in-Refused.row) l.invariant.1.1.1.0 ∙ sym (next ∙ ap (sooner (row_to t i)) some-row),
-                λ q. absurd (sooner-some l.refusal w.in-Refused.row refused.1 (sym (w.refusal-is ∙ w.earlier-refusal.ensures) ∙ q)),
+                omega arith,
+                (
+                  w.refusal-is ∙ w.earlier-refusal.ensures ∙ ap (λ (a : ℕ). sooner a w.in-Refused.row) l.invariant.1.1.1.0 ∙ sym (next ∙ ap (sooner (row_to t i)) some-row),
+                  λ q. absurd (sooner-some l.refusal w.in-Refused.row refused.1 (sym (w.refusal-is ∙ w.earlier-refusal.ensures) ∙ q)),
+                ),
               ),
             ),
-          ),
-        )
+          )
     ]
 
 pub returns-then-refusal-ne0 : goal.returns-then-refusal-ne0

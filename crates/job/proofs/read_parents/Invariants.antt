@@ -1,16 +1,9 @@
-use mathlib.Core.Path.{◌≡◌, refl, ap, ◌∙◌}
+use mathlib.Core.Path.{◌≡◌}
 use mathlib.Core.List.{List}
-use Prim.Native.Nat.{ℕ, ◌+◌, ◌-◌, ◌≤◌, ◌<◌}
-use native.Mathlib.Omega.{arith}
-use lib.ListN.{length, set}
-use borrow.Author.Rules.{rules}
-use Rattle.base.specs.Table.{tab}
-use Rattle.job.specs.declared.Job.{Job}
-use Rattle.job.proofs.ReadLaws.{record_in, fields_none, fields_more}
+use Prim.Native.Nat.{ℕ, ◌-◌, ◌≤◌, ◌<◌}
 use Rattle.job.specs.Read.{struct_of}
-use Rattle.job.specs.Bytes.{record_width, node_count, frame_count, parent_at, per_node}
+use Rattle.job.specs.Bytes.{node_count, frame_count, parent_at, per_node}
 use Rattle.job.specs.Tree.{Tree}
-use Rattle.job.specs.Limits.{most_nodes}
 use Rattle.job.proofs.read_parents.Given as goal
 
 -- the parents of the nodes below i

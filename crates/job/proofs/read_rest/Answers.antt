@@ -4,7 +4,6 @@ use mathlib.Core.Path.{◌≡◌, refl, ap, sym, ◌∙◌}
 use Prim.Native.Nat.{ℕ}
 use native.Mathlib.Omega.{arith}
 use lib.Dec.{ltb}
-use borrow.Author.Rules.{rules}
 use Rattle.base.specs.Set.{word_bits}
 use Rattle.job.specs.declared.Reading.{Reading}
 use Rattle.job.specs.Read.{struct_of, refused_or, tree_in}
@@ -20,16 +19,15 @@ pub inner_nodes-inner-requires : goal.inner_nodes-inner-requires
 inner_nodes-inner-requires c = omega (arith, c.requires.0.nodes_from, c.requires.0.nodes_to, ap (λ (j : Job). j.nodes) c.read_parents.ensures)
 
 pub read_nodes-read-requires : goal.read_nodes-read-requires
-read_nodes-read-requires c =
-    (
-      c.requires.0,
-      (
-        c.requires.1,
-        λ k. c.inner_nodes-inner.ensures k
-            ∙ ap (λ (j : Job). has_child (tree_in j) k && ltb k word_bits) c.read_parents.ensures
-            ∙ rw (parents_settle c.args.s.now c.requires.0.nodes_to k) refl,
-      ),
-    )
+read_nodes-read-requires c = (
+  c.requires.0,
+  (
+    c.requires.1,
+    λ k. c.inner_nodes-inner.ensures k
+        ∙ ap (λ (j : Job). has_child (tree_in j) k && ltb k word_bits) c.read_parents.ensures
+        ∙ rw (parents_settle c.args.s.now c.requires.0.nodes_to k) refl,
+  ),
+)
 
 abbrev read_of : List ℕ → Job
 read_of s = struct_of (tree_of s) (frame_count s)

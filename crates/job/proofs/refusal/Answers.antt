@@ -1,4 +1,3 @@
-use borrow.Author.Rules.{rules}
 use Rattle.job.proofs.RefusalLaws.{read_number}
 use Rattle.job.proofs.refusal.Goals as goal
 

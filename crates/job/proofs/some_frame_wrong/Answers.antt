@@ -1,16 +1,15 @@
 use mathlib.Core.Path.{◌≡◌, refl, sym, ◌∙◌}
 use mathlib.Core.Bool.{true, false}
-use Prim.Native.Nat.{◌+◌, ◌-◌, ◌*◌, ◌≤◌}
+use Prim.Native.Nat.{◌+◌, ◌≤◌}
 use native.Mathlib.Numerals.{add-one}
 use native.Mathlib.Omega.{arith}
 use lib.ListN.{length}
-use borrow.Author.Rules.{rules}
 use Rattle.base.proofs.RangeLaws.{some-passes}
 use Rattle.base.specs.Range.{some}
 use Rattle.job.proofs.NodeLaws.{frame_large, frame-fits}
 use Rattle.job.proofs.ReadLaws.{frame_in}
 use Rattle.job.specs.Refusal.{frame_wrong}
-use Rattle.job.specs.Bytes.{frames_place, frame_width, frame_at, frame_count}
+use Rattle.job.specs.Bytes.{frame_width, frame_at, frame_count}
 use Rattle.job.proofs.some_frame_wrong.Goals as goal
 use Rattle.job.proofs.some_frame_wrong.Goals.{After-number4_at, In-loop-m}
 

@@ -1,16 +1,9 @@
-use mathlib.Core.Path.{◌≡◌, refl, sym, ◌∙◌}
-use mathlib.Core.Bool.{true, false}
+use mathlib.Core.Path.{◌≡◌}
+use mathlib.Core.Bool.{false}
 use Prim.Native.Nat.{◌+◌, ◌-◌, ◌*◌, ◌≤◌}
-use native.Mathlib.Numerals.{add-one}
-use native.Mathlib.Omega.{arith}
-use lib.ListN.{length}
-use borrow.Author.Rules.{rules}
-use Rattle.base.proofs.RangeLaws.{some-passes}
 use Rattle.base.specs.Range.{some}
-use Rattle.job.proofs.NodeLaws.{frame_large, frame-fits}
-use Rattle.job.proofs.ReadLaws.{frame_in}
 use Rattle.job.specs.Refusal.{frame_wrong}
-use Rattle.job.specs.Bytes.{frames_place, frame_width, frame_at, frame_count}
+use Rattle.job.specs.Bytes.{frames_place, frame_width, frame_at}
 use Rattle.job.proofs.some_frame_wrong.Given as goal
 
 abbrev pub invariant-loop-m : goal.invariant-loop-m

@@ -1,14 +1,11 @@
-use mathlib.Core.Path.{◌≡◌, ap, sym, ◌∙◌}
-use mathlib.Core.List.{List, ◌++◌}
-use Prim.Native.Nat.{ℕ, ◌+◌, ◌-◌}
-use lib.ListN.{length, take}
+use mathlib.Core.Path.{◌≡◌, ap, ◌∙◌}
+use Prim.Native.Nat.{◌+◌, ◌-◌}
+use lib.ListN.{length}
 use lib.Seq.{take_at, length-take-le}
 use Rattle.base.proofs.TableLaws.{length-tab}
 use Rattle.job.specs.Tree.{T}
 use Rattle.job.specs.Bytes.{job_of}
 use native.Mathlib.Omega.{arith}
-use borrow.Author.Rules.{rules}
-use Rattle.job.proofs.write_sums.Reads as write-sums-reads
 use Rattle.job.proofs.sums.Goals as goal
 
 pub write_sums-requires : goal.write_sums-requires

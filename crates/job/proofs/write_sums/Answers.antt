@@ -1,14 +1,13 @@
 use mathlib.Core.Path.{◌≡◌, ap, sym, ◌∙◌}
-use Prim.Native.Nat.{ℕ, ◌+◌, ◌-◌, ◌*◌, ◌≤◌}
+use Prim.Native.Nat.{ℕ, ◌+◌, ◌≤◌}
 use native.Mathlib.Omega.{arith}
 use lib.ListN.{length, set, length-set}
-use borrow.Author.Rules.{rules}
 use Rattle.base.proofs.TableLaws.{filled_none, filled_more, filled_again, filled-done}
 use Rattle.base.specs.Table.{tab, Filled}
 use Rattle.job.proofs.SlotLaws.{T-zero, T-suc, T-fits}
 use Rattle.job.proofs.RefusalLaws.{accepted_sized, accepted_within}
 use Rattle.job.proofs.ReadLaws.{header_in, frame_in}
-use Rattle.job.specs.Bytes.{node_count, frame_count, frames_place, frame_width, frame_at, job_of}
+use Rattle.job.specs.Bytes.{node_count, frame_width, frame_at, job_of}
 use Rattle.job.specs.Tree.{T}
 use Rattle.job.proofs.write_sums.Goals as goal
 use Rattle.job.proofs.write_sums.Goals.{After-number4_at-total, After-number_at-nodes, In-loop-m}

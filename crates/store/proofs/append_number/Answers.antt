@@ -11,7 +11,6 @@ use Rattle.store.specs.declared.Store.{Store}
 use Rattle.store.proofs.StoreLaws.{unfit-facts}
 use Rattle.store.proofs.CountLaws.{own_above, full_long, full_is}
 use Rattle.store.proofs.CallLaws.{append_bad, append_past}
-use borrow.Author.Rules.{rules}
 use Rattle.store.proofs.append_number.Goals as goal
 use Rattle.store.proofs.append_number.Goals.{After-some_above, Else-m-n, Else-unfit, Start}
 

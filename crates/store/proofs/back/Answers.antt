@@ -1,5 +1,4 @@
 use native.Mathlib.Omega.{arith}
-use borrow.Author.Rules.{rules}
 use Rattle.store.proofs.RoundLaws.{back_near, back_round}
 use Rattle.store.proofs.back.Goals as goal
 

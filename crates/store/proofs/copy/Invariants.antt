@@ -1,10 +1,6 @@
-use borrow.Author.Rules.{rules}
-use native.Mathlib.Omega.{arith}
-use mathlib.Core.Path.{sym, ◌∙◌}
 use Prim.Native.Nat.{◌-◌}
 use lib.ListN.{length, get_or}
 use Rattle.base.specs.Table.{Filled}
-use Rattle.base.proofs.TableLaws.{tab_of_list, filled_none, filled_more, filled-done}
 use Rattle.store.proofs.copy.Given as goal
 
 abbrev pub invariant-loop-i : goal.invariant-loop-i

@@ -1,5 +1,4 @@
 use native.Mathlib.Omega.{arith}
-use borrow.Author.Rules.{rules}
 use mathlib.Core.Path.{sym}
 use Rattle.store.proofs.RoundLaws.{onward_near, onward_round}
 use Rattle.store.proofs.onward.Goals as goal

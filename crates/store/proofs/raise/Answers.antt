@@ -1,9 +1,7 @@
 use mathlib.Core.Path.{◌≡◌}
-use Prim.Native.Nat.{◌+◌, ◌-◌}
-use lib.ListN.{length, get_or}
-use Rattle.base.specs.Table.{Filled}
+use Prim.Native.Nat.{◌+◌}
+use lib.ListN.{get_or}
 use Rattle.base.proofs.TableLaws.{filled_none, filled_more, filled-ahead, filled-done}
-use borrow.Author.Rules.{rules}
 use native.Mathlib.Omega.{arith}
 use Rattle.store.proofs.raise.Goals as goal
 use Rattle.store.proofs.raise.Goals.{In-loop-c}

@@ -1,10 +1,6 @@
-use mathlib.Core.Path.{◌≡◌}
 use Prim.Native.Nat.{◌+◌, ◌-◌}
 use lib.ListN.{length, get_or}
 use Rattle.base.specs.Table.{Filled}
-use Rattle.base.proofs.TableLaws.{filled_none, filled_more, filled-ahead, filled-done}
-use borrow.Author.Rules.{rules}
-use native.Mathlib.Omega.{arith}
 use Rattle.store.proofs.raise.Given as goal
 
 abbrev pub invariant-loop-c : goal.invariant-loop-c

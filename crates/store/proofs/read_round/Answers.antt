@@ -1,4 +1,3 @@
-use borrow.Author.Rules.{rules}
 use Rattle.store.proofs.StretchLaws.{read_stretches}
 use Rattle.store.proofs.read_round.Goals as goal
 

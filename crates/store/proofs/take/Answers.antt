@@ -7,7 +7,6 @@ use Rattle.store.specs.Store.{most_children}
 use Rattle.store.proofs.RoundLaws.{back_to}
 use Rattle.store.proofs.StoreLaws.{place-to, waiting_to, take_round}
 use Rattle.store.proofs.CallLaws.{Takeable, takeable, take-answers, take_refuses}
-use borrow.Author.Rules.{rules}
 use Rattle.store.proofs.take.Goals as goal
 use Rattle.store.proofs.take.Goals.{Then-number-eq0}
 

@@ -10,7 +10,6 @@ use Rattle.store.specs.Store.{not_waiting, store_of, waiting_for, unfit, take_nu
 use Rattle.store.specs.declared.Store.{Store}
 use Rattle.store.proofs.StoreLaws.{unfit-facts}
 use Rattle.store.proofs.CallLaws.{take_bad, take_past}
-use borrow.Author.Rules.{rules}
 use Rattle.store.proofs.take_number.Goals as goal
 use Rattle.store.proofs.take_number.Goals.{Else-children-child, Else-unfit, Start}
 

@@ -5,7 +5,6 @@ use borrow.Author.Tests.{lt-ltb, le-ltb, eq-eqb, ne_eqb}
 use Rattle.store.specs.Store.{most_children, store_of, count_wrong, unfit, impossible}
 use Rattle.store.specs.declared.Store.{Store}
 use Rattle.store.proofs.CountLaws.{counts_are}
-use borrow.Author.Rules.{rules}
 use Rattle.store.proofs.unfit.Goals as goal
 use Rattle.store.proofs.unfit.Goals.{Else-place_wrong, Start}
 

@@ -1,4 +1,3 @@
-use borrow.Author.Rules.{rules}
 use Rattle.store.proofs.StretchLaws.{write_stretches}
 use Rattle.store.proofs.write_round.Goals as goal
 

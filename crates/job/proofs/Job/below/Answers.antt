@@ -1,11 +1,9 @@
-use mathlib.Core.Logic.{⊎_elim}
 use mathlib.Core.Path.{◌≡◌, refl, sym, ◌∙◌}
-use Prim.Native.Nat.{◌-◌, ◌≤◌, ◌<◌}
+use Prim.Native.Nat.{◌<◌}
 use native.Mathlib.Omega.{arith}
 use lib.ListN.{get_or}
 use borrow.Author.Tests.{lt-ltb}
-use borrow.Author.Rules.{rules}
-use Rattle.base.proofs.CollectLaws.{Collected, collected_none, collected_take, collected_skip, collected_done}
+use Rattle.base.proofs.CollectLaws.{collected_none, collected_take, collected_skip, collected_done}
 use Rattle.base.proofs.BoolLaws.{and_true}
 use Rattle.base.specs.Set.{has}
 use Rattle.job.proofs.TreeLaws.{shape, link_is, below_step, below_in, below_root_none}
@@ -33,8 +31,8 @@ loop-i-preserved c =
       (
         omega arith,
         elim c.if-joins.branch [
-          then-joins w ↦ rw w.set-is (collected_take (λ k. below t k a.a) s.i s.set _ (omega (arith, c.requires.nodes_to)) (sym here ∙ w.if-joins.true) s.invariant.1.1 w.with-set.ensures)
-        | else-joins w ↦ rw w.set-is (collected_skip (λ k. below t k a.a) s.i s.set (sym here ∙ w.if-joins.false) s.invariant.1.1)
+          | then-joins w ↦ rw w.set-is (collected_take (λ k. below t k a.a) s.i s.set _ (omega (arith, c.requires.nodes_to)) (sym here ∙ w.if-joins.true) s.invariant.1.1 w.with-set.ensures)
+          | else-joins w ↦ rw w.set-is (collected_skip (λ k. below t k a.a) s.i s.set (sym here ∙ w.if-joins.false) s.invariant.1.1)
         ],
       ),
     )

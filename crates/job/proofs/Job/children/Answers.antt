@@ -1,12 +1,9 @@
 use mathlib.Core.Path.{◌≡◌, ◌∙◌}
-use mathlib.Core.Logic.{⊎_elim}
-use Prim.Native.Nat.{◌-◌, ◌≤◌, ◌<◌}
 use native.Mathlib.Omega.{arith}
 use lib.Dec.{eqb}
 use lib.ListN.{get_or}
 use borrow.Author.Tests.{eq-eqb, ne_eqb}
-use borrow.Author.Rules.{rules}
-use Rattle.base.proofs.CollectLaws.{Collected, collected_none, collected_take, collected_skip, collected_done}
+use Rattle.base.proofs.CollectLaws.{collected_none, collected_take, collected_skip, collected_done}
 use Rattle.job.proofs.TreeLaws.{shape, child-link, child_in, child_root}
 use Rattle.job.specs.Tree.{child}
 use Rattle.job.proofs.Job.children.Goals as goal
@@ -27,8 +24,8 @@ loop-i-preserved c =
       (
         omega arith,
         elim c.if-parent-i.branch [
-          then-parent-i w ↦ rw w.set-is (collected_take (λ k. child t k a.a) s.i s.set _ (omega arith) (here ∙ eq-eqb _ _ w.if-parent-i.true) s.invariant.1.1 w.with-set.ensures)
-        | else-parent-i w ↦ rw w.set-is (collected_skip (λ k. child t k a.a) s.i s.set (here ∙ ne_eqb _ _ w.if-parent-i.false) s.invariant.1.1)
+          | then-parent-i w ↦ rw w.set-is (collected_take (λ k. child t k a.a) s.i s.set _ (omega arith) (here ∙ eq-eqb _ _ w.if-parent-i.true) s.invariant.1.1 w.with-set.ensures)
+          | else-parent-i w ↦ rw w.set-is (collected_skip (λ k. child t k a.a) s.i s.set (here ∙ ne_eqb _ _ w.if-parent-i.false) s.invariant.1.1)
         ],
       ),
     )

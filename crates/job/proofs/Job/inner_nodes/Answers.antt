@@ -1,10 +1,8 @@
 use mathlib.Core.Path.{◌≡◌, refl, ap, sym, ◌∙◌}
 use mathlib.Core.Bool.{Bool, ◌&&◌}
-use Prim.Native.Nat.{◌-◌, ◌≤◌, ◌<◌}
 use native.Mathlib.Omega.{arith}
 use lib.Dec.{ltb}
-use borrow.Author.Rules.{rules}
-use Rattle.base.proofs.CollectLaws.{Passing, passing_none, passing_more}
+use Rattle.base.proofs.CollectLaws.{passing_none, passing_more}
 use Rattle.base.specs.Set.{word_bits}
 use Rattle.base.specs.Range.{some}
 use Rattle.job.proofs.TreeLaws.{shape, parents-none, parents_more}

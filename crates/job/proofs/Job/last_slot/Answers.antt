@@ -1,6 +1,5 @@
 use mathlib.Core.Path.{◌≡◌, refl, ◌∙◌}
 use native.Mathlib.Omega.{arith}
-use borrow.Author.Rules.{rules}
 use Rattle.job.proofs.SlotLaws.{greatest_delay_le, greatest_delay-set}
 use Rattle.job.specs.Read.{tree_in}
 use Rattle.job.specs.Tree.{H, greatest_delay}

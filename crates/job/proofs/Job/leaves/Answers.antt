@@ -1,14 +1,13 @@
 use mathlib.Core.Logic.{⊎_elim}
 use mathlib.Core.Path.{◌≡◌, refl, ap, ◌∙◌}
-use mathlib.Core.Bool.{Bool, not, ◌&&◌}
-use Prim.Native.Nat.{ℕ, ◌-◌, ◌≤◌, ◌<◌}
+use mathlib.Core.Bool.{not}
+use Prim.Native.Nat.{◌≤◌, ◌<◌}
 use native.Mathlib.Omega.{arith}
 use lib.Dec.{ltb}
 use borrow.Author.Tests.{lt-ltb, le-ltb, ltb-true}
-use borrow.Author.Rules.{rules}
-use Rattle.base.proofs.CollectLaws.{Collected, collected_none, collected_take, collected_skip, collected_done}
+use Rattle.base.proofs.CollectLaws.{collected_none, collected_take, collected_skip, collected_done}
 use Rattle.base.proofs.BoolLaws.{and_true, and_left, lt_or_le}
-use Rattle.base.specs.Set.{has, word_bits}
+use Rattle.base.specs.Set.{word_bits}
 use Rattle.job.specs.Tree.{leaf}
 use Rattle.job.proofs.Job.leaves.Goals as goal
 use Rattle.job.proofs.Job.leaves.Invariants.{childless}
@@ -25,8 +24,8 @@ loop-i-preserved c =
     let here : p s.i ≡ not c.member.result = rw (lt-ltb s.i n c.loop-i-test.true, c.member.ensures) refl in (
       omega arith,
       elim c.if-not-member.branch [
-        then-not-member w ↦ rw w.set-is (collected_take p s.i s.set _ (omega arith) (here ∙ ap not w.if-not-member.true) s.invariant.1 w.with-set.ensures)
-      | else-not-member w ↦ rw w.set-is (collected_skip p s.i s.set (here ∙ ap not w.if-not-member.false) s.invariant.1)
+        | then-not-member w ↦ rw w.set-is (collected_take p s.i s.set _ (omega arith) (here ∙ ap not w.if-not-member.true) s.invariant.1 w.with-set.ensures)
+        | else-not-member w ↦ rw w.set-is (collected_skip p s.i s.set (here ∙ ap not w.if-not-member.false) s.invariant.1)
       ],
     )
 

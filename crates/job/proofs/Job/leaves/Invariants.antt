@@ -1,15 +1,8 @@
-use mathlib.Core.Logic.{⊎_elim}
-use mathlib.Core.Path.{◌≡◌, refl, ◌∙◌}
 use mathlib.Core.Bool.{Bool, not, ◌&&◌}
-use Prim.Native.Nat.{ℕ, ◌-◌, ◌≤◌, ◌<◌}
-use native.Mathlib.Omega.{arith}
+use Prim.Native.Nat.{ℕ, ◌-◌, ◌≤◌}
 use lib.Dec.{ltb}
-use borrow.Author.Tests.{lt-ltb, le-ltb, ltb-true}
-use borrow.Author.Rules.{rules}
-use Rattle.base.proofs.CollectLaws.{Collected, collected_none, collected_take, collected_skip, collected_done}
-use Rattle.base.proofs.BoolLaws.{and_true, and_left, lt_or_le}
-use Rattle.base.specs.Set.{has, word_bits}
-use Rattle.job.specs.Tree.{leaf}
+use Rattle.base.proofs.CollectLaws.{Collected}
+use Rattle.base.specs.Set.{has}
 use Rattle.job.proofs.Job.leaves.Given as goal
 
 -- a node that is not in `inner`

@@ -1,7 +1,6 @@
 use mathlib.Core.Path.{◌∙◌}
 use Rattle.job.specs.Read.{tree_in}
 use Rattle.job.proofs.TreeLaws.{at_word}
-use borrow.Author.Rules.{rules}
 use Rattle.job.proofs.Job.leaves_at.Goals as goal
 
 pub returns : goal.returns

@@ -1,6 +1,5 @@
 use mathlib.Core.Path.{◌∙◌}
 use borrow.Author.Tests.{lt-ltb, le-ltb}
-use borrow.Author.Rules.{rules}
 use Rattle.job.proofs.Job.new.Goals as goal
 
 pub returns-then-nodes-lt-FEWEST_NODES : goal.returns-then-nodes-lt-FEWEST_NODES

@@ -1,7 +1,6 @@
 use mathlib.Core.Path.{◌≡◌, refl}
 use Prim.Native.Nat.{ℕ, ◌+◌, ◌-◌, ◌*◌, ◌≤◌}
 use native.Mathlib.Omega.{arith}
-use borrow.Author.Rules.{rules}
 use Rattle.job.proofs.SlotLaws.{H-fits, plan_length-fits}
 use Rattle.job.specs.Read.{job_in}
 use Rattle.job.specs.Tree.{plan_length}

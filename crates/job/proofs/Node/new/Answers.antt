@@ -1,13 +1,12 @@
 use mathlib.Core.Path.{sym, ◌∙◌}
 use borrow.Author.Tests.{lt-ltb, le-ltb}
-use borrow.Author.Rules.{rules}
 use Rattle.job.proofs.Node.new.Goals as goal
 
 pub returns-then-number-node : goal.returns-then-number-node
 returns-then-number-node c = let parent = le-ltb _ _ c.if-number-node.true in record {
-      value = simp parent;
-      result_value = simp parent;
-    }
+  value = simp parent;
+  result_value = simp parent;
+}
 
 pub returns-then-delay_wrong : goal.returns-then-delay_wrong
 returns-then-delay_wrong c =

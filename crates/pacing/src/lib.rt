@@ -1,6 +1,7 @@
 // Passes over a film at given rates: the least delay with which a rate is in time, and the most that what is played gets ahead of it.
 // It knows no tree and no bytes, only the sums T(0) to T(M) and rates. Definitions to believe: specs/Pace.
 #![tactic(auto)]
+
 ghost use Rattle.std.specs.Prelude.{◌≡◌, ◌+◌, ◌-◌, ◌*◌, ◌≤◌, ◌<◌, max, min, length, get_or};
 ghost use Rattle.base.specs.Range.{greatest};
 ghost use Rattle.base.specs.Table.{tab};

@@ -1,6 +1,7 @@
 // Rows of numbers, one for each slot: lazy rows, the search for a least peak, and rows closed over a tree of links.
 // It knows no job: only slices, and the theory in `smoothing`. Definitions to believe: specs/Row, Search, Closing.
 #![tactic(auto)]
+
 ghost use Rattle.std.specs.Prelude.{◌≡◌, ℕ, ◌+◌, ◌-◌, ◌*◌, ◌≤◌, ◌<◌, max, min, length};
 ghost use Rattle.base.specs.Table.{tab};
 ghost use Rattle.smoothing.specs.Row.{ceil_div};

@@ -1,20 +1,20 @@
 -- Laws of what `put_back` says: which refusal it gives and where, and what the bytes then are.
-use mathlib.Core.Bool.{true, false, cond}
+use mathlib.Core.Bool.{true, false}
 use mathlib.Core.List.{List}
 use mathlib.Core.Path.{◌≡◌, refl, sym, ◌∙◌}
 use Prim.Native.Nat.{ℕ, ◌-◌, ◌≤◌, ◌<◌}
 use native.Mathlib.Omega.{arith}
-use lib.Dec.{eqb, ltb}
+use lib.Dec.{ltb}
 use lib.ListN.{length, get_or}
 use borrow.Author.Tests.{lt-ltb, le-ltb, ltb-false, eq-eqb, ne_eqb}
 use Rattle.base.proofs.RangeLaws.{none_passes}
 use Rattle.job.specs.Limits.{longest_delay, greatest_memory}
 use Rattle.job.specs.Tree.{link}
-use Rattle.job.specs.Bytes.{node_count, job_of}
+use Rattle.job.specs.Bytes.{node_count}
 use Rattle.job.specs.Refusal.{bad_delay, large_memory, bad_lent, refusal}
 use Rattle.job.proofs.TreeLaws.{link_in}
 use Rattle.job.proofs.RefusalLaws.{or_else-first, or_else_second}
-use Rattle.writing.specs.PutBack.{put_back, answered_job, memories_in, some_memory_wrong, put_back_refusal, Puts}
+use Rattle.writing.specs.PutBack.{put_back, memories_in, some_memory_wrong, put_back_refusal, Puts}
 use Rattle.writing.proofs.AnswerLaws.{answered_bytes, answered_read}
 
 module _ (s : List ℕ) (w : ℕ) (l : List ℕ) where

@@ -1,5 +1,6 @@
 // Writing into job bytes: an answer of the rate question put back into its job. Definitions to believe: specs/PutBack.
 #![tactic(auto)]
+
 ghost use Rattle.std.specs.Prelude.{cond, ◌≡◌, ◌+◌, ◌%◌, ◌≤◌, ◌<◌, length};
 ghost use Rattle.job.specs.Limits.{most_nodes};
 ghost use Rattle.job.specs.Bytes.{record_place, record_width};

@@ -1,0 +1,14 @@
+use Rattle.base.specs.Table.{Filled}
+use Rattle.base.proofs.TableLaws.{filled_none, filled_more, filled-ahead, filled-done}
+use lib.ListN.{length, get_or}
+use mathlib.Core.Path.{◌≡◌, ◌∙◌}
+use Prim.Native.Nat.{◌-◌}
+use borrow.Author.Rules.{rules}
+use native.Mathlib.Omega.{arith}
+use Rattle.curves.proofs.lessen.Given as goal
+
+abbrev pub invariant-loop-k : goal.invariant-loop-k
+invariant-loop-k l = Filled (λ k. get_or l.initial.out k 0 - l.less) l.k l.initial.out l.out
+
+abbrev pub decreases-loop-k : goal.decreases-loop-k
+decreases-loop-k l = length l.initial.out - l.k

@@ -1,0 +1,7 @@
+use Rattle.job.specs.Sums.{sums_in}
+use borrow.Author.Rules.{rules}
+use Rattle.curves.proofs.played.Goals as goal
+
+pub returns : goal.returns
+unfolding sums_in
+returns c = rw c.place.ensures

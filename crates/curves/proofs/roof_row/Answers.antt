@@ -1,0 +1,19 @@
+use mathlib.Core.Path.{sym, ◌∙◌}
+use Prim.Native.Nat.{◌-◌}
+use Rattle.job.specs.Sums.{last_in}
+use Rattle.curves.proofs.AllRowsLaws.{roof-leaf, roof_inner}
+use borrow.Author.Rules.{rules}
+use Rattle.curves.proofs.roof_row.Goals as goal
+
+pub returns-then-member : goal.returns-then-member
+unfolding last_in
+returns-then-member c =
+    let is_Is_leaf = sym (c.leaves.ensures c.args.v) ∙ sym c.member.ensures ∙ c.if-member.true in
+    let fill-row = c.fill_row.ensures in
+    c.lower_by_leaf.ensures ∙ rw fill-row (roof-leaf _ c.requires.0.tree _ _ _ _ is_Is_leaf)
+
+pub returns-else-member : goal.returns-else-member
+unfolding last_in
+returns-else-member c =
+    let none = sym (c.leaves.ensures c.args.v) ∙ sym c.member.ensures ∙ c.if-member.false in
+    c.fill_row.ensures ∙ roof_inner _ _ _ _ _ none

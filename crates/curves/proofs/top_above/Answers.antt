@@ -1,0 +1,18 @@
+use borrow.Author.Rules.{rules}
+use native.Mathlib.Omega.{arith}
+use Rattle.curves.proofs.LowerLaws.{parent-lower}
+use Rattle.job.specs.Read.{tree_in}
+use Prim.Native.Nat.{◌≤◌, ◌<◌}
+use Rattle.curves.proofs.top_above.Goals as goal
+
+pub loop-a-smaller : goal.loop-a-smaller
+loop-a-smaller c =
+    let l = c.loop-a in
+    parent-lower (tree_in c.args.job) c.requires.0 l.a (omega (arith, l.invariant, c.requires.1))
+
+pub loop-a-preserved : goal.loop-a-preserved
+loop-a-preserved c =
+    let l = c.loop-a in (
+      omega arith,
+      omega (arith, parent-lower (tree_in c.args.job) c.requires.0 l.a (omega (arith, l.invariant, c.requires.1)), l.invariant),
+    )

@@ -1,0 +1,12 @@
+use borrow.Author.Rules.{rules}
+use native.Mathlib.Omega.{arith}
+use Rattle.curves.proofs.LowerLaws.{parent-lower}
+use Rattle.job.specs.Read.{tree_in}
+use Prim.Native.Nat.{◌≤◌, ◌<◌}
+use Rattle.curves.proofs.top_above.Given as goal
+
+abbrev pub invariant-loop-a : goal.invariant-loop-a
+invariant-loop-a l = (0 < l.a) × (l.a ≤ l.i)
+
+abbrev pub decreases-loop-a : goal.decreases-loop-a
+decreases-loop-a l = l.a

@@ -1,0 +1,47 @@
+use mathlib.Core.Path.{◌≡◌, refl, ap, sym, ◌∙◌}
+use mathlib.Core.Bool.{true, false}
+use mathlib.Core.List.{List}
+use Prim.Native.Nat.{ℕ, ◌+◌, ◌-◌, ◌≤◌, ◌<◌}
+use lib.ListN.{length, get_or}
+use borrow.Author.Count.{below_more}
+use Rattle.base.specs.Table.{tab}
+use Rattle.base.proofs.BoolLaws.{not_both}
+use Rattle.base.proofs.TableLaws.{length-tab}
+use Rattle.base.proofs.WalkLaws.{Seen, seen_start, seen_in, seen_next, seen_all}
+use Rattle.job.specs.Tree.{leaf}
+use Rattle.job.specs.Read.{tree_in}
+use Rattle.job.specs.declared.Job.{Job}
+use Rattle.job.proofs.SlotLaws.{leaf-link}
+use Rattle.job.proofs.TreeLaws.{link_in, link_is}
+use Rattle.smoothing.specs.Tree.{Link}
+use Rattle.curves.specs.Curves.{lower_curve}
+use Rattle.job.specs.Sums.{sums_in, last_in}
+use Rattle.curves.specs.Rows.{Kept, leaf_lower}
+use Rattle.job.proofs.SumsLaws.{film_of, sum_fits}
+use Rattle.planner.proofs.RoomLaws.{InRoom, in_room_by_row, starved_by_row, root_leaf_in_room, all_fed}
+use borrow.Author.Rules.{rules}
+use native.Mathlib.Omega.{arith}
+use Rattle.planner.proofs.starves.Given as goal
+
+-- what the code takes at slot x for leaf i's lower curve, from the row of its parent u, and for its own room
+abbrev pub lower_of : Job → List ℕ → List ℕ → ℕ → ℕ → ℕ → ℕ
+lower_of job sums lowers i u x = leaf_lower (sums_in sums (x - get_or job.delay i 0)) (get_or lowers x 0) (get_or job.memory u 0)
+
+abbrev pub room_of : Job → List ℕ → ℕ → ℕ → ℕ
+room_of job sums i x = sums_in sums (x - get_or job.delay i 0) + get_or job.memory i 0
+
+abbrev pub invariant-loop-k : goal.invariant-loop-k
+invariant-loop-k l =
+    (l.k ≤ length l.lowers) × ((l.found ≡ false) × ((x : ℕ) → x < l.k → lower_of l.job l.sums l.lowers l.i l.u x ≤ room_of l.job l.sums l.i x))
+
+abbrev pub decreases-loop-k : goal.decreases-loop-k
+decreases-loop-k l = length l.lowers - l.k
+
+-- each leaf seen stays within its own room; that it is fed follows only from all of them
+abbrev pub invariant-search : goal.invariant-search
+invariant-search l =
+    (length l.lowers ≡ length l.initial.lowers)
+    × ((l.found ≡ false) × (Kept (tree_in l.job) (sums_in l.sums) l.near l.lowers × Seen (InRoom (tree_in l.job) (sums_in l.sums) (length l.initial.lowers)) l.initial.rest l.rest))
+
+abbrev pub decreases-search : goal.decreases-search
+decreases-search l = l.rest

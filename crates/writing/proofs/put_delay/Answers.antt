@@ -1,0 +1,5 @@
+use mathlib.Core.Path.{refl, ◌∙◌}
+use Rattle.writing.proofs.put_delay.Goals as goal
+
+pub returns-then-leaf : goal.returns-then-leaf
+returns-then-leaf c = c.put_number.ensures ∙ rw c.if-leaf.true refl

@@ -1,0 +1,5 @@
+use mathlib.Core.Path.{refl, ◌∙◌}
+use Rattle.writing.proofs.put_record.Goals as goal
+
+pub returns : goal.returns
+returns c = c.put_number.ensures ∙ rw c.put_delay.ensures refl

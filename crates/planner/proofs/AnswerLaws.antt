@@ -1,5 +1,4 @@
 -- From the work on an accepted job to the memory question's answer.
-use mathlib.Core.Bool.{true}
 use mathlib.Core.List.{List}
 use mathlib.Core.Path.{◌≡◌, refl, ap, sym, ◌∙◌}
 use mathlib.Core.Logic.{inr}
@@ -12,7 +11,7 @@ use borrow.Author.Tests.{eq-eqb, ne_eqb}
 use Rattle.base.specs.Table.{tab}
 use Rattle.base.proofs.BoolLaws.{and_no_right}
 use Rattle.base.proofs.TableLaws.{length-tab, get_or-tab, get_d_rows, tab_cong}
-use Rattle.job.specs.Tree.{Tree, JobData, JobWithin, leaf, T, greatest_delay, H, plan_length}
+use Rattle.job.specs.Tree.{Tree, JobData, JobWithin, T, greatest_delay, H, plan_length}
 use Rattle.job.specs.Bytes.{frame_count, job_of}
 use Rattle.job.specs.Refusal.{refusal, bad_lent}
 use Rattle.job.specs.Read.{tree_in, Accepted}
@@ -33,7 +32,7 @@ use Rattle.planner.specs.declared.Answer.{Answer}
 use Rattle.planner.specs.declared.Answer.TheVariants.{Refused, Planned}
 use Rattle.planner.specs.Rules.{Best}
 use Rattle.planner.specs.Answer.{early_refusal, plan_in, Answers}
-use Rattle.planner.specs.Work.{Fed, Starves, AllFed, width_of, plan_rows_of, peaks_of, Worked}
+use Rattle.planner.specs.Work.{Starves, AllFed, width_of, plan_rows_of, peaks_of, Worked}
 use Rattle.planner.proofs.WorkLaws.{least_peak-same}
 use Rattle.planner.proofs.KeepLaws.{problem_of, well_formed, to_theory, best_of_optimal, optimal_of_best, no_plan_lem, plan_best, feasible_by_leaves}
 

@@ -1,11 +1,10 @@
 -- Document 01's lazy schedule of a link's lower curve is the theory's lazy row, which `lazy_row` fills: the lower curve ends with T(M).
 use mathlib.Core.Bool.{true, false}
-use mathlib.Core.Path.{◌≡◌, refl, sym, ◌∙◌}
+use mathlib.Core.Path.{◌≡◌}
 use mathlib.Core.Logic.{⊎_elim}
-use Prim.Native.Nat.{ℕ, ◌+◌, ◌-◌, ◌≤◌, ◌<◌}
+use Prim.Native.Nat.{ℕ, ◌-◌, ◌≤◌}
 use native.Mathlib.Omega.{arith}
 use native.Mathlib.Decide.{ℕ_discrete}
-use Rattle.base.specs.Range.{least_over}
 use Rattle.base.proofs.BoolLaws.{true_or_false}
 use Rattle.base.proofs.RangeLaws.{least_over_attained}
 use Rattle.job.specs.Tree.{JobData, JobWithin, link, leaf, T, H, greatest_delay}

@@ -1,6 +1,7 @@
 // The memory question: from memories to what every link sends in every slot; and the row of one link.
 // Definitions to believe: specs/Rules (the rules of a plan and the best plan), specs/Answer (what the functions below give).
 #![tactic(auto)]
+
 ghost use Rattle.std.specs.Prelude.{true, false, ◌≡◌, ◌-◌, length};
 ghost use Rattle.job.specs.Limits.{most_slots};
 ghost use Rattle.job.specs.Read.{tree_in, Accepted};

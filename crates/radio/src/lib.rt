@@ -1,6 +1,7 @@
 // Constant-rate radio links: from a film and rates to the least delay and the least memory of one screen at each rate.
 // Definitions to believe: specs/Radio (what serves, the line of a rate), specs/Answer (what the function below gives).
 #![tactic(auto)]
+
 ghost use Rattle.std.specs.Prelude.{[], ◌∷◌, ◌≡◌, ◌+◌, ◌-◌, ◌*◌, ◌≤◌, ◌<◌, length};
 ghost use Rattle.job.specs.Limits.{most_frames, longest_delay, greatest_rate};
 ghost use Rattle.job.specs.Bytes.{job_of};

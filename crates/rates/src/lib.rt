@@ -2,6 +2,7 @@
 // Definitions to believe: specs/Rates (floor rate, w, need, memories, what serves), Choice of smoothing (the memories from the needs),
 // specs/Answer (what the function below gives).
 #![tactic(auto)]
+
 ghost use Rattle.std.specs.Prelude.{true, ◌≡◌, suc, ◌+◌, ◌-◌, ◌≤◌, ◌<◌, min, length, get_or};
 ghost use Rattle.base.specs.Range.{fold, two_least};
 ghost use Rattle.base.specs.Set.{has, word_bits};

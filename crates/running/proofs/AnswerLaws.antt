@@ -1,20 +1,19 @@
 -- From the work on a job with slots left to what the step says.
-use mathlib.Core.Bool.{Bool, true, false, cond, ◌&&◌}
+use mathlib.Core.Bool.{Bool, true, false, ◌&&◌}
 use mathlib.Core.List.{List}
-use mathlib.Core.Path.{◌≡◌, refl, ap, ap₂, sym, ◌∙◌}
-use mathlib.Core.Logic.{◌⊎◌, inl, inr, ⊎_elim}
-use Prim.Native.Nat.{ℕ, suc, ◌+◌, ◌-◌, ◌≤◌, ◌<◌}
+use mathlib.Core.Path.{◌≡◌, refl, ap, ap₂, ◌∙◌}
+use mathlib.Core.Logic.{◌⊎◌, inl, inr}
+use Prim.Native.Nat.{ℕ, suc, ◌+◌, ◌-◌, ◌<◌}
 use native.Mathlib.Omega.{arith}
 use lib.Dec.{eqb}
-use lib.ListN.{length, get_or}
+use lib.ListN.{length}
 use borrow.Author.Tests.{eq-eqb, ne_eqb}
-use Rattle.base.specs.Range.{least_over}
 use Rattle.base.specs.Table.{tab}
-use Rattle.base.proofs.BoolLaws.{true_or_false, and_no_right}
+use Rattle.base.proofs.BoolLaws.{and_no_right}
 use Rattle.base.proofs.RangeLaws.{least_over_cong}
 use Rattle.base.proofs.TableLaws.{get_or-tab, tab_cong}
 use Rattle.job.specs.Limits.{most_nodes}
-use Rattle.job.specs.Tree.{Tree, JobData, TreeWithin, link, child, leaf, T, H, plan_length}
+use Rattle.job.specs.Tree.{Tree, JobData, TreeWithin, child, leaf, T, H, plan_length}
 use Rattle.job.specs.Bytes.{frame_count, job_of}
 use Rattle.job.specs.Refusal.{refusal}
 use Rattle.job.specs.Read.{tree_in, Accepted}

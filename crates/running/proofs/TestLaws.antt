@@ -1,19 +1,18 @@
 -- Laws of the tests of one link, and of the column that a step takes.
-use mathlib.Core.Bool.{Bool, true, false, cond, ◌&&◌, ◌||◌}
+use mathlib.Core.Bool.{Bool, true, false, cond, ◌&&◌}
 use mathlib.Core.Path.{◌≡◌, refl, ap, sym, ◌∙◌}
 use mathlib.Core.List.{List}
-use mathlib.Core.Logic.{⊎_elim}
-use Prim.Native.Nat.{ℕ, suc, ◌+◌, ◌-◌, ◌≤◌, ◌<◌, max}
+use Prim.Native.Nat.{ℕ, ◌+◌, ◌-◌, ◌≤◌, ◌<◌, max}
 use native.Mathlib.Omega.{arith}
 use native.Mathlib.Decide.{ℕ_discrete, dec_lt}
-use borrow.Author.Tests.{lt-ltb, le-ltb, ltb-true, ltb-false}
+use borrow.Author.Tests.{lt-ltb, le-ltb, ltb-true}
 use lib.Dec.{ltb}
 use lib.ListN.{length, get_or, set, length-set}
 use lib.Seq.{get_or-set_same, get_or-set_other, ext_get_or}
 use Rattle.base.specs.Range.{fold, greatest_over}
 use Rattle.base.specs.Set.{has, word_bits}
 use Rattle.base.specs.Table.{tab}
-use Rattle.base.proofs.BoolLaws.{iff_same, lt_or_le, otherwise}
+use Rattle.base.proofs.BoolLaws.{iff_same, otherwise}
 use Rattle.base.proofs.TableLaws.{length-tab, get_or-tab, tab_of_list, tab_cong}
 use Rattle.base.proofs.RangeLaws.{fold_cong, fold_skip}
 use Rattle.job.specs.Tree.{Tree, TreeWithin, link, child}

@@ -1,5 +1,5 @@
 -- Document 01, 'The running tree': a value that each slot hands on, and what a step of it gives.
-use Rattle.std.specs.Prelude.{true, cond, ◌&&◌, List, ◌⊎◌, ◌≡◌, ℕ, zero, suc, ◌+◌, ◌-◌, ◌≤◌, ◌<◌, eqb, length, get_or}
+use Rattle.std.specs.Prelude.{true, cond, ◌&&◌, List, ◌⊎◌, ◌≡◌, ℕ, suc, ◌-◌, ◌≤◌, ◌<◌, eqb, length, get_or}
 use Rattle.base.specs.Range.{least_over}
 use Rattle.base.specs.Table.{tab}
 use Rattle.job.specs.Limits.{most_nodes}

@@ -1,6 +1,7 @@
 // The running tree: a value that each slot hands on, which takes a column of any plan just when that column keeps the rules.
 // Definitions to believe: specs/Running, with the rules of one column in planner/specs/Rules.
 #![tactic(auto)]
+
 ghost use Rattle.std.specs.Prelude.{Bool, true, false, ◌||◌, ◌≡◌, ℕ, suc, ◌+◌, ◌-◌, ◌*◌, ◌≤◌, ◌<◌, max, ltb, length, get_or};
 ghost use Rattle.base.specs.Range.{fold};
 ghost use Rattle.base.specs.Set.{has, word_bits};

@@ -3,7 +3,6 @@ use mathlib.Core.Logic.{inl}
 use Prim.Native.Nat.{◌-◌, ◌*◌}
 use native.Mathlib.Omega.{arith}
 use lib.ListN.{length}
-use borrow.Author.Rules.{rules}
 use Rattle.planner.proofs.AnswerLaws.{early_read, early_plan, early_peaks, answered}
 use Rattle.planner.specs.Work.{width_of}
 use Rattle.planner.specs.Answer.{Answers}

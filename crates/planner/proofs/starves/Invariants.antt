@@ -1,26 +1,14 @@
-use mathlib.Core.Path.{◌≡◌, refl, ap, sym, ◌∙◌}
-use mathlib.Core.Bool.{true, false}
+use mathlib.Core.Path.{◌≡◌}
+use mathlib.Core.Bool.{false}
 use mathlib.Core.List.{List}
 use Prim.Native.Nat.{ℕ, ◌+◌, ◌-◌, ◌≤◌, ◌<◌}
 use lib.ListN.{length, get_or}
-use borrow.Author.Count.{below_more}
-use Rattle.base.specs.Table.{tab}
-use Rattle.base.proofs.BoolLaws.{not_both}
-use Rattle.base.proofs.TableLaws.{length-tab}
-use Rattle.base.proofs.WalkLaws.{Seen, seen_start, seen_in, seen_next, seen_all}
-use Rattle.job.specs.Tree.{leaf}
+use Rattle.base.proofs.WalkLaws.{Seen}
 use Rattle.job.specs.Read.{tree_in}
 use Rattle.job.specs.declared.Job.{Job}
-use Rattle.job.proofs.SlotLaws.{leaf-link}
-use Rattle.job.proofs.TreeLaws.{link_in, link_is}
-use Rattle.smoothing.specs.Tree.{Link}
-use Rattle.curves.specs.Curves.{lower_curve}
-use Rattle.job.specs.Sums.{sums_in, last_in}
+use Rattle.job.specs.Sums.{sums_in}
 use Rattle.curves.specs.Rows.{Kept, leaf_lower}
-use Rattle.job.proofs.SumsLaws.{film_of, sum_fits}
-use Rattle.planner.proofs.RoomLaws.{InRoom, in_room_by_row, starved_by_row, root_leaf_in_room, all_fed}
-use borrow.Author.Rules.{rules}
-use native.Mathlib.Omega.{arith}
+use Rattle.planner.proofs.RoomLaws.{InRoom}
 use Rattle.planner.proofs.starves.Given as goal
 
 -- what the code takes at slot x for leaf i's lower curve, from the row of its parent u, and for its own room

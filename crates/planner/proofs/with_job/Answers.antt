@@ -1,5 +1,4 @@
 use Rattle.job.proofs.SumsLaws.{with_sums}
-use borrow.Author.Rules.{rules}
 use Rattle.planner.proofs.with_job.Goals as goal
 
 pub with_sums-requires : goal.with_sums-requires

@@ -6,7 +6,6 @@ use Rattle.planner.specs.Work.{Ready, Worked}
 use Rattle.job.specs.Sums.{last_in}
 use Rattle.job.proofs.TreeLaws.{link_is}
 use native.Mathlib.Omega.{arith}
-use borrow.Author.Rules.{rules}
 use Rattle.planner.proofs.with_rows.Goals as goal
 use Rattle.planner.proofs.with_rows.Goals.{Else-starves}
 

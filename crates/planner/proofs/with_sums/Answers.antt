@@ -4,7 +4,6 @@ use Prim.Native.Nat.{ℕ, ◌+◌, ◌-◌, ◌*◌, ◌≤◌}
 use native.Mathlib.Omega.{arith}
 use lib.Seq.{length-take-le}
 use lib.ListN.{length, take}
-use borrow.Author.Rules.{rules}
 use Rattle.planner.specs.Work.{width_of}
 use Rattle.job.specs.Limits.{most_slots}
 use Rattle.job.proofs.SlotLaws.{greatest_delay_le}

@@ -1,0 +1,15 @@
+use mathlib.Core.Bool.{Bool, ◌&&◌, ◌||◌}
+use mathlib.Core.Path.{ap, ◌∙◌}
+use lib.Dec.{eqb, ltb}
+use Rattle.base.specs.Set.{word_bits}
+use Rattle.job.specs.Read.{tree_in}
+use Rattle.rates.proofs.WalkLaws.{floor_walk}
+use Rattle.rates.proofs.floor_rate.Goals as goal
+
+pub returns : goal.returns
+returns c =
+    let i = c.args.i in
+    c.least_of.ensures
+    ∙ floor_walk (tree_in c.args.job) c.requires.0 c.with.result i c.requires.1
+    (λ k. c.with.ensures k
+    ∙ ap (λ (b : Bool). b || (eqb k i && ltb k word_bits)) (c.below.ensures k))

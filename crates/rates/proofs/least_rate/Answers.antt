@@ -1,0 +1,8 @@
+use mathlib.Core.Path.{◌∙◌}
+use Rattle.job.specs.Read.{tree_in}
+use Rattle.rates.proofs.WalkLaws.{least_walk}
+use Rattle.rates.proofs.least_rate.Goals as goal
+
+pub returns : goal.returns
+returns c = c.least_of.ensures ∙ least_walk (tree_in c.args.job)
+    c.requires c.below.result c.below.ensures

@@ -1,0 +1,16 @@
+use Prim.Native.Nat.{suc, ◌-◌}
+use lib.ListN.{get_or}
+use Rattle.base.specs.Table.{Filled}
+use Rattle.job.specs.Read.{tree_in}
+use Rattle.smoothing.specs.Lists.{family_in}
+use Rattle.job.specs.Sums.{sums_in}
+use Rattle.running.specs.Work as work
+use Rattle.running.proofs.report.Given as goal
+
+abbrev pub invariant-loop-i : goal.invariant-loop-i
+invariant-loop-i l =
+    Filled (λ i. get_or l.column (suc i) 0 - get_or l.carried (suc i) 0) l.i l.initial.sent l.sent
+    × Filled (λ i. work.held (tree_in l.job) (sums_in l.sums) l.k (family_in l.column) (suc i)) l.i l.initial.held l.held
+
+abbrev pub decreases-loop-i : goal.decreases-loop-i
+decreases-loop-i l = l.links - l.i

@@ -1,5 +1,6 @@
 // The C interface, declared to C in include/relay.h: thin calls, each with the whole contract of the function that it calls.
 #![tactic(auto)]
+
 ghost use Rattle.std.specs.Prelude.{◌≡◌, length};
 ghost use Rattle.base.specs.Table.{tab};
 ghost use Rattle.job.specs.Steps.{or_else};

@@ -6,7 +6,8 @@ usage: tools/respell.py [--check]        at the top of the repository, once, aft
     floorRate, low-starts, filledFrom-done, copy-row  ->  floor_rate, low_starts, filled_from_done, copy-row
 
 A part in camel case is written with underscores. A dash stays where it joins two names of definitions, as in `copy-row`; a plain word is
-joined by an underscore, and a lemma that would have its definition's name gets `_lem`. Types and modules keep their capitals. What the prover makes (a goal, a step, a step's field) keeps its name.
+joined by an underscore, as are the words of a record's field. A lemma that would have its definition's name gets `_lem`. Types and modules
+keep their capitals. What the prover makes (a goal, a step, a step's field) keeps its name.
 It stops where two names would fall together, and prints `look:` for a name that a file had before under the new spelling.
 --check writes nothing.
 """
@@ -32,6 +33,19 @@ def snake(part):
     if not CAMEL.match(part):
         return part
     return re.sub(r"(?<=[a-z0-9])([A-Z])", lambda m: "_" + m[1].lower(), part)
+
+
+def fields_of(text):
+    """The fields of the records that are declared here."""
+    depth = None
+    for line in text.split("\n"):
+        indent = len(line) - len(line.lstrip())
+        if depth is not None and (not line.strip() or indent <= depth):
+            depth = None
+        if re.match(r"\s*(?:pub )?record .* where$", line):
+            depth = indent
+        elif depth is not None and (m := re.match(r"\s*(?:pub )?([^\W\d][\w'′]*(?:-[\w'′]+)*) :", line)):
+            yield m[1]
 
 
 def respelled(name, names):
@@ -62,8 +76,7 @@ def main(argv):
             declared.add(m[1])
             if p in specs:
                 defined.add(m[1])
-        for m in re.finditer(r"^ +pub ([^\W\d][\w'′]*(?:-[\w'′]+)*) :", bare, re.M):
-            fields.add(m[1])
+        fields |= set(fields_of(bare))
         for m in IMPORT.finditer(bare):
             if not m[1].startswith("Rattle.") or m[1].startswith("Rattle.std"):
                 kit |= {w.strip() for w in m[2].split(",")}
@@ -72,6 +85,9 @@ def main(argv):
     table = {}
     for n in sorted((declared | camel) - kit):
         new = respelled(n, names)
+        words = "_".join(snake(p) for p in n.split("-"))
+        if n in fields and words not in declared and words not in names:
+            new = words
         if new != n:
             table[n] = new
     by_new = {}

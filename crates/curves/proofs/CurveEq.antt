@@ -90,9 +90,9 @@ module _ (t : Tree) (w : TreeWithin t) (T : ℕ → ℕ) (top H : ℕ) where
     lower_top i k h =
         (lower_is_least t w T k).least (λ v. top) (closed_constant (problem t T top H).tree top) (λ v l. omega (arith, low-under-D t w T v k, D_top v k)) i h
 
-    low-grows : (i j k : ℕ) → j ≤ k → low t T i j ≤ low t T i k
+    low_grows : (i j k : ℕ) → j ≤ k → low t T i j ≤ low t T i k
     unfolding low
-    low-grows i j k h =
+    low_grows i j k h =
         ⊎_elim
         (λ (e : leaf t i ≡ true). rw e (D-grows i j k h))
         (λ (e : leaf t i ≡ false). rw e (omega arith))
@@ -103,9 +103,9 @@ module _ (t : Tree) (w : TreeWithin t) (T : ℕ → ℕ) (top H : ℕ) where
     unfolding high
     problem_well_formed = record {
       ordered = parent-lower t w;
-      low-starts = λ i h. omega (arith, low-under-D t w T i 0, D-starts i);
-      low-grows = λ i h k q. low-grows i k (suc k) (omega arith);
-      high-starts = λ i h. refl;
+      low_starts = λ i h. omega (arith, low-under-D t w T i 0, D-starts i);
+      low_grows = λ i h k q. low_grows i k (suc k) (omega arith);
+      high_starts = λ i h. refl;
     }
 
 -- ---- the lazy schedule

@@ -111,8 +111,8 @@ delay_inner true d h e = absurd (not_both refl h)
 delay_inner false d h e = eqb-true d 0 (not-false (eqb d 0) e)
 
 -- the three rows on nodes, and the counts, say that the tree is within the limits
-tree-within : (t : Tree) → fewest_nodes ≤ t.n → t.n ≤ most_nodes → nodes_refusal t ≡ 0 → TreeWithin t
-tree-within t a b h =
+tree_within : (t : Tree) → fewest_nodes ≤ t.n → t.n ≤ most_nodes → nodes_refusal t ≡ 0 → TreeWithin t
+tree_within t a b h =
     let P = some_node t (λ i. parent_wrong i (t.parent i)) in
     let D = some_node t (λ i. delay_wrong (leaf t i) (t.delay i)) in
     let A = some_node t (λ i. amount_wrong (t.memory i) (t.rate i)) in
@@ -150,8 +150,8 @@ accepted_sized s h =
     record {
       nodes_from = n1;
       nodes_to = n2;
-      frames-from = f1;
-      frames-to = f2;
+      frames_from = f1;
+      frames_to = f2;
       long = eqb-true (length s) (wanted_length s) (not-false (eqb (length s) (wanted_length s)) (cond-first _ 6 0 (omega arith) l));
     }
 
@@ -164,9 +164,9 @@ accepted_within s h =
     let (l, w) = or_else-none (length_refusal s) (rest_refusal s) q in
     let (x, y) = or_else-none (nodes_refusal (tree_of s)) _ w in
     record {
-      tree = tree-within (tree_of s) z.nodes_from z.nodes_to x;
-      frames-from = z.frames-from;
-      frames-to = z.frames-to;
+      tree = tree_within (tree_of s) z.nodes_from z.nodes_to x;
+      frames_from = z.frames_from;
+      frames_to = z.frames_to;
       frames = λ m k. ltb-false greatest_frame (frame_at s m) (none_passes (λ i. frame_wrong (frame_at s i)) (frame_count s) (cond-first _ 10 0 (omega arith) y) m k);
     }
 
@@ -238,11 +238,11 @@ read_accepts s r e h =
       none = z;
       held = held;
       frames = frames;
-      tree-within = rw held w.tree;
+      tree_within = rw held w.tree;
       within = w;
       same = λ x. record { tree = held x; M = frames x; frame = frame_at s };
     }
 
 -- an accepted job's struct has what H and the plan's length ask of one
 pub accepted_struct : (s : List ℕ) (job : Job) → Accepted s job → TreeWithin (tree_in job) × (job.frames ≤ most_frames)
-accepted_struct s job acc = (acc.tree-within, rw acc.frames acc.within.frames-to)
+accepted_struct s job acc = (acc.tree_within, rw acc.frames acc.within.frames_to)

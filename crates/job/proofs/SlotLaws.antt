@@ -55,7 +55,7 @@ T_bound j w m =
 
 -- the same as one number, for machine words
 pub T-fits : (j : JobData) → JobWithin j → (m : ℕ) → T j m ≤ greatest_total
-T-fits j w m = le_trans (T_bound j w m) (mul-le-mul_right greatest_frame w.frames-to)
+T-fits j w m = le_trans (T_bound j w m) (mul-le-mul_right greatest_frame w.frames_to)
 
 -- a whole film is no more than a memory or a rate may be
 pub total_in_memory : greatest_total ≤ greatest_memory

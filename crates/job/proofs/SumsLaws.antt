@@ -21,8 +21,8 @@ pub film_of : (l : List ℕ) → HoldsSums l → Film (sums_in l) (last_in l)
 unfolding sums_in last_in
 film_of l h = record {
   starts = let e : min 0 (length l - 1) ≡ 0 = omega arith in rw e h.starts;
-  grows = λ m k q. h.grows (min m (length l - 1)) (min k (length l - 1)) (omega arith) (omega (arith, h.some-sum));
-  under = λ m. h.grows (min m (length l - 1)) (length l - 1) (omega arith) (omega (arith, h.some-sum));
+  grows = λ m k q. h.grows (min m (length l - 1)) (min k (length l - 1)) (omega arith) (omega (arith, h.some_sum));
+  under = λ m. h.grows (min m (length l - 1)) (length l - 1) (omega arith) (omega (arith, h.some_sum));
 }
 
 -- and end with T(M)
@@ -71,7 +71,7 @@ pub job_sums : (j : JobData) → JobWithin j → HoldsSums (tab (T j) (j.M + 1))
 job_sums j w =
     let e = length-tab (T j) (j.M + 1) in
     record {
-      some-sum = rw e (omega arith);
+      some_sum = rw e (omega arith);
       starts = get_or-tab (T j) (j.M + 1) 0 (omega arith) ∙ T-zero j;
       grows = λ m k q h. rw (get_or-tab (T j) (j.M + 1) m (omega arith), get_or-tab (T j) (j.M + 1) k (omega arith)) (T_le j m k q);
       fits = rw (last_of j) (T-fits j w j.M);
@@ -80,8 +80,8 @@ job_sums j w =
 -- the sums of an accepted job are those of its struct
 pub with_sums : (s : List ℕ) (job : Job) → Accepted s job → WithSums job (sums_of s)
 with_sums s job acc = record {
-  tree = acc.tree-within;
-  frames-to = omega (arith, acc.frames, acc.within.frames-to);
+  tree = acc.tree_within;
+  frames_to = omega (arith, acc.frames, acc.within.frames_to);
   film = job_sums (job_of s) acc.within;
   long = length-tab (T (job_of s)) (frame_count s + 1) ∙ omega (arith, acc.frames);
 }

@@ -85,7 +85,7 @@ pub record Accepted (s : List ℕ) (job : Job) : Type 0 where
   pub none : refusal s ≡ 0
   pub held : tree_in job ≡ tree_of s
   pub frames : job.frames ≡ frame_count s
-  pub tree-within : TreeWithin (tree_in job)
+  pub tree_within : TreeWithin (tree_in job)
   pub within : JobWithin (job_of s)
   pub same : job_in job (frame_at s) ≡ job_of s
 

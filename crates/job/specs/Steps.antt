@@ -14,8 +14,8 @@ use Rattle.job.specs.declared.Node.{Node}
 pub record Sized (s : List ℕ) : Type 0 where
   pub nodes_from : fewest_nodes ≤ node_count s
   pub nodes_to : node_count s ≤ most_nodes
-  pub frames-from : fewest_frames ≤ frame_count s
-  pub frames-to : frame_count s ≤ most_frames
+  pub frames_from : fewest_frames ≤ frame_count s
+  pub frames_to : frame_count s ≤ most_frames
   pub long : length s ≡ wanted_length s
 
 -- the tree that the bytes say, with the parents alone

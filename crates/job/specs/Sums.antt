@@ -42,7 +42,7 @@ last_in l = get_or l (length l - 1) 0
 
 -- What is asked of such a slice: it isn't empty, it begins with 0, it never falls, and it ends within what the limits allow.
 pub record HoldsSums (l : List ℕ) : Type 0 where
-  pub some-sum : 0 < length l
+  pub some_sum : 0 < length l
   pub starts : get_or l 0 0 ≡ 0
   pub grows : (m k : ℕ) → m ≤ k → k < length l → get_or l m 0 ≤ get_or l k 0
   pub fits : last_in l ≤ greatest_total
@@ -50,6 +50,6 @@ pub record HoldsSums (l : List ℕ) : Type 0 where
 -- a job's struct within the limits, and the sums of its film
 pub record WithSums (job : Job) (sums : List ℕ) : Type 0 where
   pub tree : TreeWithin (tree_in job)
-  pub frames-to : job.frames ≤ most_frames
+  pub frames_to : job.frames ≤ most_frames
   pub film : HoldsSums sums
   pub long : length sums ≡ job.frames + 1

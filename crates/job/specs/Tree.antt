@@ -78,6 +78,6 @@ pub record TreeWithin (t : Tree) : Type 0 where
 -- A job within them: what refusals 5 and 10 leave besides.
 pub record JobWithin (j : JobData) : Type 0 where
   pub tree : TreeWithin j.tree
-  pub frames-from : fewest_frames ≤ j.M
-  pub frames-to : j.M ≤ most_frames
+  pub frames_from : fewest_frames ≤ j.M
+  pub frames_to : j.M ≤ most_frames
   pub frames : (m : ℕ) → m < j.M → j.frame m ≤ greatest_frame

@@ -23,7 +23,7 @@ use Rattle.pacing.specs.Work.{DelayForSlot, DelayBefore}
 -- ---- the sums of a job's film
 
 pub film_sums : (job : Job) (sums : List ℕ) → WithSums job sums → FilmSums sums
-film_sums job sums with = record { holds = with.film; frames-to = omega (arith, with.long, with.frames-to) }
+film_sums job sums with = record { holds = with.film; frames_to = omega (arith, with.long, with.frames_to) }
 
 -- ---- what it is to be in time
 

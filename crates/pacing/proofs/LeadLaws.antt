@@ -90,7 +90,7 @@ module _ (T : ℕ → ℕ) (grows : (m k : ℕ) → m ≤ k → T m ≤ T k) (r 
 pub steps_higher : (T : ℕ → ℕ) (low r M : ℕ) (places : List ℕ) (k : ℕ) → low ≤ r → Steps T low M places k → Steps T r M places k
 steps_higher T low r M places k h by =
     record {
-      some-place = by.some-place;
+      some_place = by.some_place;
       few = by.few;
       starts = by.starts;
       ends = by.ends;

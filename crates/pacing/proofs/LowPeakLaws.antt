@@ -49,7 +49,7 @@ pub record AtRate (z d peaked leftmost straight full fullmost lead floor : ℕ) 
   pub over : leftmost ≤ max fullmost z
   pub under : fullmost ≤ max leftmost z
   pub kept : peaked ≤ leftmost
-  pub from-peak : straight ≤ full
+  pub from_peak : straight ≤ full
   pub near : full ≤ max straight (lead - floor - d)
   pub within : fullmost ≤ max peaked z
 
@@ -105,7 +105,7 @@ module _ (played taken less d : ℕ) (more : less + d ≤ taken) where
           over = max_more leftmost fullmost z full' so.over;
           under = max_more fullmost leftmost z full' so.under;
           kept = omega arith;
-          from-peak = omega arith;
+          from_peak = omega arith;
           near = omega arith;
           within = max_more fullmost leftmost z full' so.under;
         }
@@ -116,14 +116,14 @@ module _ (played taken less d : ℕ) (more : less + d ≤ taken) where
           over = max_more leftmost fullmost z full' so.over;
           under = max_more fullmost leftmost z full' so.under;
           kept = omega (arith, so.kept);
-          from-peak = from-peak_on full a w so.from-peak;
+          from_peak = from-peak_on full a w so.from_peak;
           near = near_on full a w lead floor floor so.near floored (omega arith);
           within = max-under fullmost peaked z full' so.within small;
         }
 
     again : lead' ≤ floor → straight' ≡ full'
     again h =
-        both_ways straight' full' (from-peak_on full a w so.from-peak)
+        both_ways straight' full' (from-peak_on full a w so.from_peak)
         (max_none full' straight' (lead' - lead' - d) (near_on full a w lead floor lead' so.near floored h) (omega arith))
 
     on_low : full' ≤ max peaked z → AtRate z d peaked (max peaked full') full' full' (max fullmost full') lead' lead'
@@ -132,7 +132,7 @@ module _ (played taken less d : ℕ) (more : less + d ≤ taken) where
           over = max_more peaked fullmost z full' (omega (arith, so.kept, so.over));
           under = max_more fullmost peaked z full' so.within;
           kept = omega arith;
-          from-peak = omega arith;
+          from_peak = omega arith;
           near = omega arith;
           within = max-under fullmost peaked z full' so.within small;
         }
@@ -192,7 +192,7 @@ since_peak-start T low frame old z =
         over = omega arith;
         under = omega arith;
         kept = omega arith;
-        from-peak = omega arith;
+        from_peak = omega arith;
         near = omega arith;
         within = omega arith;
       };
@@ -248,7 +248,7 @@ module _ (T : ℕ → ℕ) (grows : (m k : ℕ) → m ≤ k → T m ≤ T k) (lo
   straight_under r h =
       rw (straight_on r, full_on r)
       (from-peak_on (T to - T at) (r * (to - at)) (low * (to - at)) (r - low) (more r h) (ahead_by T old r j)
-      (ahead_by T places r t.peak + (T at - T from)) (r * (at - from)) (so.rates r h).from-peak)
+      (ahead_by T places r t.peak + (T at - T from)) (r * (at - from)) (so.rates r h).from_peak)
 
   straight_near : (r floor : ℕ) → low ≤ r → floor ≤ t.floor
       → ahead_by T old r (suc j) ≤ max (straight_to T places r t.peak to) (ahead_by T old low (suc j) - floor - (r - low))

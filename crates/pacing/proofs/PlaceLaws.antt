@@ -163,10 +163,10 @@ pub left_track : (M : ℕ) (old places : List ℕ) (count last : ℕ) → Track 
     → ((u : ℕ) → u < last → get_or places u 0 < get_or places (suc u) 0) → Track M places (last + 1)
 left_track M old places count last was starts few inside rising =
     record {
-      some-place = omega arith;
-      few = omega (arith, was.some-place, was.few);
+      some_place = omega arith;
+      few = omega (arith, was.some_place, was.few);
       starts = starts;
-      inside = λ j h. omega (arith, inside j (omega arith), was.inside (count - 1) (omega (arith, was.some-place)));
+      inside = λ j h. omega (arith, inside j (omega arith), was.inside (count - 1) (omega (arith, was.some_place)));
       rising = λ j h. rising j (omega arith);
     }
 
@@ -272,7 +272,7 @@ steps_places sums grows low high frame places k by small least =
     record {
       track =
           record {
-            some-place = by.some-place;
+            some_place = by.some_place;
             few = by.few;
             starts = by.starts;
             inside = by.inside;
@@ -280,6 +280,6 @@ steps_places sums grows low high frame places k by small least =
           };
       small = small;
       enough = λ r h l.
-          let last = (exact (sums_in sums) grows low (length sums - 1) places k by r h (k - 1) (omega (arith, by.some-place))).so_far in
+          let last = (exact (sums_in sums) grows low (length sums - 1) places k by r h (k - 1) (omega (arith, by.some_place))).so_far in
           omega (arith, rw by.ends at last, least r);
     }

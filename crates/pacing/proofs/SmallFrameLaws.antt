@@ -21,7 +21,7 @@ Step T r a b = (a < b) × ((b ≡ suc a) ⊎ SmallFrames T r a b)
 
 -- k places lead from slot 0 to slot M by steps
 pub record Steps (T : ℕ → ℕ) (r M : ℕ) (places : List ℕ) (k : ℕ) : Type 0 where
-  pub some-place : 0 < k
+  pub some_place : 0 < k
   pub few : k ≤ suc M
   pub starts : get_or places 0 0 ≡ 0
   pub ends : get_or places (k - 1) 0 ≡ M
@@ -39,7 +39,7 @@ module _ (T : ℕ → ℕ) (r : ℕ) where
       record {
         steps =
             record {
-              some-place = omega arith;
+              some_place = omega arith;
               few = omega arith;
               starts = z;
               ends = z;
@@ -61,16 +61,16 @@ module _ (T : ℕ → ℕ) (r : ℕ) where
         record {
           steps =
               record {
-                some-place = omega arith;
+                some_place = omega arith;
                 few = omega (arith, so.steps.few, way.0);
-                starts = other 0 (λ e. omega (arith, old.some-place)) ∙ old.starts;
+                starts = other 0 (λ e. omega (arith, old.some_place)) ∙ old.starts;
                 ends = rw back here;
                 inside = λ j h. inside_at j h (ℕ_discrete j k);
                 steps = λ j h. step_at j h (ℕ_discrete (suc j) k);
               };
           falling = λ low. (
-            omega (arith, old.some-place),
-            rw (other (suc k - 2) (λ e. omega (arith, old.some-place)), before-it)
+            omega (arith, old.some_place),
+            rw (other (suc k - 2) (λ e. omega (arith, old.some_place)), before-it)
                 (flat low),
           );
         }
@@ -104,7 +104,7 @@ module _ (T : ℕ → ℕ) (r : ℕ) where
         record {
           steps =
               record {
-                some-place = old.some-place;
+                some_place = old.some_place;
                 few = omega (arith, so.steps.few, way.0);
                 starts = get_or-set_other places (k - 1) 0 to 0 (λ e. omega arith) ∙ old.starts;
                 ends = get_or-set_same places (k - 1) to 0 short;

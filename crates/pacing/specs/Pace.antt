@@ -10,7 +10,7 @@ use Rattle.job.specs.Sums.{sums_in, HoldsSums}
 -- the sums T(0) to T(M) of a film within the limits
 pub record FilmSums (sums : List ℕ) : Type 0 where
   pub holds : HoldsSums sums
-  pub frames-to : length sums ≤ most_frames + 1
+  pub frames_to : length sums ≤ most_frames + 1
 
 -- and a place for each of its slots
 pub record WithPlaces (sums places : List ℕ) : Type 0 where

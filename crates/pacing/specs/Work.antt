@@ -56,7 +56,7 @@ pub record StopBefore (sums : List ℕ) (to r : ℕ) (s : Stop) : Type 0 where
 
 -- k places, from slot 0 on, up to slot M at most
 pub record Track (M : ℕ) (places : List ℕ) (k : ℕ) : Type 0 where
-  pub some-place : 0 < k
+  pub some_place : 0 < k
   pub few : k ≤ suc M
   pub starts : get_or places 0 0 ≡ 0
   pub inside : (j : ℕ) → j < k → get_or places j 0 ≤ M
@@ -104,7 +104,7 @@ pub record SameUpTo (sums : List ℕ) (high : ℕ) (old : List ℕ) (k : ℕ) (n
 -- what is asked of a state since a peak, of the next lead and of the slack
 pub record SincePeakWithin (t : SincePeak) (lead slack : ℕ) : Type 0 where
   pub last_to : t.last ≤ most_frames
-  pub peak-to : t.peak ≤ most_frames
+  pub peak_to : t.peak ≤ most_frames
   pub under : t.floor ≤ t.bar
   pub lead_to : lead ≤ greatest_total
   pub slack_to : slack ≤ greatest_total

@@ -39,10 +39,10 @@ module _ (j : JobData) (within : JobWithin j) where
         (λ (e : leaf j.tree i ≡ false). rw e (omega arith))
         (true_or_false (leaf j.tree i))
 
-    below-high : (i : ℕ) → Link j.tree.n i → (k : ℕ) → k ≤ H j → S i k ≤ high j.tree (T j) (T j j.M) i k
+    below_high : (i : ℕ) → Link j.tree.n i → (k : ℕ) → k ≤ H j → S i k ≤ high j.tree (T j) (T j j.M) i k
     unfolding high
-    below-high i h zero r = omega (arith, keeps.starts i (linked i h))
-    below-high i h (suc k) r =
+    below_high i h zero r = omega (arith, keeps.starts i (linked i h))
+    below_high i h (suc k) r =
         ⊎_elim
         (λ (e : leaf j.tree i ≡ true). rw e (omega (arith, (keeps.p2 (suc k) r i e).1, (keeps.p1 k r i (linked i h)).1)))
         (λ (e : leaf j.tree i ≡ false). rw e (keeps.p1 k r i (linked i h)).1)
@@ -54,7 +54,7 @@ module _ (j : JobData) (within : JobWithin j) where
           starts = λ i h. keeps.starts i (linked i h);
           grows = λ i h k r. (keeps.p1 k r i (linked i h)).0;
           above_low = above_low;
-          below-high = below-high;
+          below_high = below_high;
           closed = λ k r v h ne. keeps.p3 k r (j.tree.parent v) v (omega arith) (child_is j.tree v (j.tree.parent v) h.0 h.1 refl);
         }
 
@@ -65,7 +65,7 @@ module _ (j : JobData) (within : JobWithin j) where
     unfolding low high
     at_leaf k r i e =
         let h = link_in j.tree.n i (leaf-link j.tree within.tree i e) in
-        (rw e at (keeps.above_low i h k r), most k (keeps.starts i h) (keeps.below-high i h k r))
+        (rw e at (keeps.above_low i h k r), most k (keeps.starts i h) (keeps.below_high i h k r))
       where
         most : (k : ℕ) → S i 0 ≡ 0 → S i k ≤ high j.tree (T j) (T j j.M) i k → S i k ≤ D j.tree (T j) i k + j.tree.memory i
         most zero z b = omega arith
@@ -78,7 +78,7 @@ module _ (j : JobData) (within : JobWithin j) where
           p1 = λ k r i h.
               let l = link_in j.tree.n i h in (
                 keeps.grows i l k r,
-                omega (arith, keeps.below-high i l (suc k) r, high-under j.tree within.tree (T j) (T j j.M) i (suc k)),
+                omega (arith, keeps.below_high i l (suc k) r, high-under j.tree within.tree (T j) (T j j.M) i (suc k)),
               );
           p2 = at_leaf;
           p3 = λ k r i c p e.
@@ -94,7 +94,7 @@ module _ (j : JobData) (within : JobWithin j) where
         keeps = from_theory S best.keeps;
         least_peaks = λ S' other i h. best.least_peaks S' (to_theory S' other) i (link_in j.tree.n i h);
         least_sent = λ S' other same i h.
-            best.least-carried S' (to_theory S' other) (λ v l. same v (linked v l)) i (link_in j.tree.n i h);
+            best.least_carried S' (to_theory S' other) (λ v l. same v (linked v l)) i (link_in j.tree.n i h);
       }
 
   pub optimal_of_best : (S : ℕ → ℕ → ℕ) → Best j S → Optimal (problem_of j) S
@@ -102,7 +102,7 @@ module _ (j : JobData) (within : JobWithin j) where
       record {
         keeps = to_theory S best.keeps;
         least_peaks = λ S' other i h. best.least_peaks S' (from_theory S' other) i (linked i h);
-        least-carried = λ S' other same i h. best.least_sent S' (from_theory S' other) (λ v l. same v (link_in j.tree.n v l)) i (linked i h);
+        least_carried = λ S' other same i h. best.least_sent S' (from_theory S' other) (λ v l. same v (link_in j.tree.n v l)) i (linked i h);
       }
 
   pub best_unique : (S S' : ℕ → ℕ → ℕ) → Best j S → Best j S' → (i : ℕ) → link j.tree.n i ≡ true → (k : ℕ) → k ≤ H j → S i k ≡ S' i k

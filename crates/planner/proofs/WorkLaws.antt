@@ -73,14 +73,14 @@ module _ (job : Job) (sums lowers kept : List ℕ) (ready : Ready job sums lower
         some_slot = omega (arith, long, ready.wide);
         slots_to = omega (arith, long, ready.slots_to);
         same_slots = omega (arith, long, long');
-        lower-to = λ k h.
+        lower_to = λ k h.
             omega (
               arith,
               get_or-tab (lower_curve (tree_in job) (sums_in sums) v) (length lowers) k (omega (arith, long)),
               lower_top (tree_in job) ready.given.tree (sums_in sums) (last_in sums) 0 film v k is-link,
               ready.given.film.fits,
             );
-        upper-to = λ k h.
+        upper_to = λ k h.
             omega (
               arith,
               get_or-tab (upper_curve (tree_in job) (sums_in sums) (last_in sums) v) (length lowers) k (omega (arith, long')),

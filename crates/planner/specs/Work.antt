@@ -22,7 +22,7 @@ pub record Ready (job : Job) (sums lowers kept : List ℕ) : Type 0 where
 
 -- a plan and peaks of the lengths that the job asks for, where rows have w slots
 pub record OutputsFit (job : Job) (w : ℕ) (plan peaks : List ℕ) : Type 0 where
-  pub plan-long : length plan ≡ (job.nodes - 1) * w
+  pub plan_long : length plan ≡ (job.nodes - 1) * w
   pub peaks_long : length peaks ≡ job.nodes - 1
 
 -- at leaf i lower is nowhere above upper, over slots 0 to w - 1

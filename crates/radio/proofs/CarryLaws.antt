@@ -69,10 +69,10 @@ module _ (sums : List ℕ) (holds : HoldsSums sums) where
   M = length sums - 1
 
   pub film : Film (sums_in sums) (sums_in sums M)
-  film = film-to sums holds M (omega (arith, holds.some-sum))
+  film = film-to sums holds M (omega (arith, holds.some_sum))
 
   pub total_is : get_or sums M 0 ≡ sums_in sums M
-  total_is = sum_at sums M (omega (arith, holds.some-sum))
+  total_is = sum_at sums M (omega (arith, holds.some_sum))
 
   -- ---- the greatest excess of what is carried over what is played
 
@@ -128,10 +128,10 @@ module _ (sums : List ℕ) (holds : HoldsSums sums) where
                 total_is,
                 film.starts,
                 carried-grows (sums_in sums M) r k d (omega arith),
-                rw none at (greatest-above ahead m 0 (omega (arith, holds.some-sum))),
+                rw none at (greatest-above ahead m 0 (omega (arith, holds.some_sum))),
               ))
               (λ (q : d ≤ k).
               let back : d + (k - d) ≡ k = omega arith in
-              omega (arith, total_is, rw back at (greatest-above ahead m (k - d) (omega (arith, holds.some-sum)))))
+              omega (arith, total_is, rw back at (greatest-above ahead m (k - d) (omega (arith, holds.some_sum)))))
               (lt_or_le k d)),
         )

@@ -105,7 +105,7 @@ module _ (j : JobData) (R : ℕ) where
       record {
         serves = in_time_serves d (rw e (delay_in_time R j.M (T j) (omega arith)));
         least-delay = shortest;
-        least-memory = λ d' b' serves. memory-least d d' b' (shortest d' b' serves) serves;
+        least_memory = λ d' b' serves. memory-least d d' b' (shortest d' b' serves) serves;
       }
 
   pub none-serves : longest_delay < delay_at R j.M (T j) → (d' b' : ℕ) → d' ≤ longest_delay → ServesAt j R d' b' → ⊥

@@ -27,7 +27,7 @@ ServesAt j R d b = Keeps (one_screen j R d b) (λ i k. carried (T j j.M) R k)
 pub record Least (j : JobData) (R d b : ℕ) : Type 0 where
   pub serves : ServesAt j R d b
   pub least-delay : (d' b' : ℕ) → ServesAt j R d' b' → d ≤ d'
-  pub least-memory : (d' b' : ℕ) → ServesAt j R d' b' → b ≤ b'
+  pub least_memory : (d' b' : ℕ) → ServesAt j R d' b' → b ≤ b'
 
 -- ---- the delay and the memory answered
 

@@ -57,7 +57,7 @@ least-answer s job acc w l fits is-delay is =
     record {
       serves = serves;
       least-delay = delay-least j acc.within w fits is-delay;
-      least-total = total-least j acc.within w fits is-delay b is-memory;
+      least_total = total-least j acc.within w fits is-delay b is-memory;
       least_in_order = least_in_order j acc.within w fits is-delay b is-memory;
       put-back = within-rates (put_back s w b) j w b (answered_bytes s w b acc.none fits small)
           (answered_read s w b acc.none fits small) serves;
@@ -75,7 +75,7 @@ least_settled s w w' b b' one other = (same, λ i h. up_to_lem i i (omega arith)
     too = rw same other
 
     totals : total (job_of s).tree b ≡ total (job_of s).tree b'
-    totals = omega (arith, one.least-total b' too.serves, too.least-total b one.serves)
+    totals = omega (arith, one.least_total b' too.serves, too.least_total b one.serves)
 
     up_to_lem : (m i : ℕ) → i ≤ m → link (job_of s).tree.n i ≡ true → b i ≡ b' i
     up_to_lem zero i l h = absurd (omega (arith, link_in (job_of s).tree.n i h))

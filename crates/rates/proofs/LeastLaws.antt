@@ -117,7 +117,7 @@ module _ (j : JobData) (within : JobWithin j) where
 
       pub total-least : (b' : ℕ → ℕ) → Serves j w b' → total j.tree b ≤ total j.tree b'
       total-least b' served =
-          omega (arith, total_theory, least.least-total b' (serves-to j within w b' served), total_is j.tree b')
+          omega (arith, total_theory, least.least_total b' (serves-to j within w b' served), total_is j.tree b')
 
       pub least_in_order : (b' : ℕ → ℕ) → Serves j w b' → total j.tree b' ≡ total j.tree b → (i : ℕ) → link j.tree.n i ≡ true
           → ((k : ℕ) → link j.tree.n k ≡ true → k < i → b' k ≡ b k) → b i ≤ b' i

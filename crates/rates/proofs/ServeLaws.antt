@@ -78,9 +78,9 @@ module _ (j : JobData) (within : JobWithin j) (w : ℕ) (b : ℕ → ℕ) where
         (λ (e : leaf j.tree i ≡ false). rw (leaf-same j.tree i h.1, e) (omega arith))
         (true_or_false (leaf j.tree i))
 
-    below-high : (i : ℕ) → Link n i → (k : ℕ) → k ≤ j.M + w → S i k ≤ high_with (question j.tree j.M (T j)) w b i k
-    below-high i h zero r = omega (arith, keeps.starts i (linked i h))
-    below-high i h (suc k) r =
+    below_high : (i : ℕ) → Link n i → (k : ℕ) → k ≤ j.M + w → S i k ≤ high_with (question j.tree j.M (T j)) w b i k
+    below_high i h zero r = omega (arith, keeps.starts i (linked i h))
+    below_high i h (suc k) r =
         ⊎_elim
         (λ (e : leaf j.tree i ≡ true). rw (leaf-same j.tree i h.1, e) (omega (arith, (p2 (suc k) r i h e).1, (p1 k r i h).1)))
         (λ (e : leaf j.tree i ≡ false). rw (leaf-same j.tree i h.1, e) (p1 k r i h).1)
@@ -99,7 +99,7 @@ module _ (j : JobData) (within : JobWithin j) (w : ℕ) (b : ℕ → ℕ) where
           starts = λ i h. keeps.starts i (linked i h);
           grows = λ i h k r. (p1 k r i h).0;
           above_low = above_low;
-          below-high = below-high;
+          below_high = below_high;
           closed = closed;
         }
 
@@ -108,7 +108,7 @@ module _ (j : JobData) (within : JobWithin j) (w : ℕ) (b : ℕ → ℕ) where
   module _ (S : ℕ → ℕ → ℕ) (keeps : theory-plan.Keeps (problem_with (question j.tree j.M (T j)) w b) S) where
     ends : (i : ℕ) → Link n i → (k : ℕ) → k < j.M + w → S i (suc k) ≤ T j j.M
     ends i h k r =
-        let at = keeps.below-high i h (suc k) r in
+        let at = keeps.below_high i h (suc k) r in
         ⊎_elim
         (λ (e : theory.leaf n j.tree.parent i ≡ true). omega (arith, rw e at at))
         (λ (e : theory.leaf n j.tree.parent i ≡ false). omega (arith, rw e at at))
@@ -119,7 +119,7 @@ module _ (j : JobData) (within : JobWithin j) (w : ℕ) (b : ℕ → ℕ) where
 
     room : (k : ℕ) → k ≤ j.M + w → (i : ℕ) → Link n i → leaf j.tree i ≡ true → S i k ≤ T j (k - w) + b i
     room zero r i h e = omega (arith, keeps.starts i h)
-    room (suc k) r i h e = omega (arith, rw (leaf-same j.tree i h.1, e) at (keeps.below-high i h (suc k) r))
+    room (suc k) r i h e = omega (arith, rw (leaf-same j.tree i h.1, e) at (keeps.below_high i h (suc k) r))
 
     at_leaf : (k : ℕ) → k ≤ H answered → (i : ℕ) → leaf answered.tree i ≡ true
         → (D answered.tree (T answered) i k ≤ S i k) × (S i k ≤ D answered.tree (T answered) i k + answered.tree.memory i)
@@ -151,8 +151,8 @@ module _ (j : JobData) (within : JobWithin j) (w : ℕ) (b : ℕ → ℕ) where
 
   pub serves-to : Serves j w b → theory-rates.Serves (question j.tree j.M (T j)) w b
   serves-to (S, (keeps, fits)) =
-      (S, record { keeps = to_theory S keeps; within-rate = λ v h. rw slots at (fits v (linked v h)) })
+      (S, record { keeps = to_theory S keeps; within_rate = λ v h. rw slots at (fits v (linked v h)) })
 
   pub serves-from : theory-rates.Serves (question j.tree j.M (T j)) w b → Serves j w b
   serves-from (S, kept) =
-      (S, (from_theory S kept.keeps, λ i h. rw slots (kept.within-rate i (link_in n i h))))
+      (S, (from_theory S kept.keeps, λ i h. rw slots (kept.within_rate i (link_in n i h))))

@@ -300,9 +300,9 @@ memory-line s values filled h = go (and_right (eqb (refusal s) 0) _ h) (true_or_
     go test (inl e) = let (are, rows) = refused_so_lem values filled 12 (rw e at test) in rw (are, rows) (starved s none e)
     go test (inr e) = let (are, rows) = planned_so_lem values filled (job_of s) (rw e at test) in rw (are, rows) (planned s none e)
 
-rate-line : (s values : List ℕ) (filled : List (List ℕ)) → rate_test s values filled ≡ true → RateSays s values filled
+rate_line : (s values : List ℕ) (filled : List (List ℕ)) → rate_test s values filled ≡ true → RateSays s values filled
 unfolding rate_test
-rate-line s values filled h = go (and_right (eqb (refusal s) 0) _ h) (true_or_false (on_time (job_of s) longest_delay))
+rate_line s values filled h = go (and_right (eqb (refusal s) 0) _ h) (true_or_false (on_time (job_of s) longest_delay))
   where
     none : refusal s ≡ 0
     none = eqb-true (refusal s) 0 (and_left (eqb (refusal s) 0) _ h)
@@ -325,7 +325,7 @@ line_is line h = go line.memory h
         ≡ true
         → Says b line.job line.values line.filled
     go true h = memory-line _ _ _ h
-    go false h = rate-line _ _ _ h
+    go false h = rate_line _ _ _ h
 
 lines_are : (lines : List Line) → pass_all lines ≡ true → Holds lines
 unfolding pass_all

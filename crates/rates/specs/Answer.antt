@@ -38,7 +38,7 @@ early_refusal s lent = cond (eqb (refusal s) 0) (cond (eqb lent ((job_of s).tree
 pub record Least (s : List ℕ) (w : ℕ) (b : ℕ → ℕ) : Type 0 where
   pub serves : Serves (job_of s) w b
   pub least-delay : (w' : ℕ) (b' : ℕ → ℕ) → Serves (job_of s) w' b' → w ≤ w'
-  pub least-total : (b' : ℕ → ℕ) → Serves (job_of s) w b' → total (job_of s).tree b ≤ total (job_of s).tree b'
+  pub least_total : (b' : ℕ → ℕ) → Serves (job_of s) w b' → total (job_of s).tree b ≤ total (job_of s).tree b'
   pub least_in_order : (b' : ℕ → ℕ) → Serves (job_of s) w b' → total (job_of s).tree b' ≡ total (job_of s).tree b
       → (i : ℕ) → link (job_of s).tree.n i ≡ true → ((k : ℕ) → link (job_of s).tree.n k ≡ true → k < i → b' k ≡ b k) → b i ≤ b' i
   pub put-back : (answer : Answer) (plan₀ plan₁ peaks₀ peaks₁ : List ℕ)

@@ -31,7 +31,7 @@ lines-room l h = omega arith
 pub room-enough : (s : List ℕ) (planned links : ℕ) → Taken s planned links → memory_room s + rate_room s ≤ text_room
 unfolding plan_length
 room-enough s planned links t =
-    omega (arith, lines-room ((job_of s).tree.n - 1) (H (job_of s) + 1), t.plan_is, t.plan-fits, t.links_are, t.links_fit)
+    omega (arith, lines-room ((job_of s).tree.n - 1) (H (job_of s) + 1), t.plan_is, t.plan_fits, t.links_are, t.links_fit)
 
 -- the node lines fit after the first line
 pub nodes_fit : (end m n w room long : ℕ) → end ≤ word_width * 3 → m ≡ n → word_width * 3 + n * w ≤ room → long ≡ room → end + m * w ≤ long
@@ -68,7 +68,7 @@ asked s text h r p b =
 
 pub both_added : (s l p : List ℕ) (a r : ℕ) → MemoryLines s (take a l) → RateAdded s l a p r → BothAnswers s (take r p)
 both_added s l p a r m q =
-    record { memory-lines = take a l; rate-line = q.text; memory = m; rate = q.line; printed = q.added.1 }
+    record { memory_lines = take a l; rate_line = q.text; memory = m; rate = q.line; printed = q.added.1 }
 
 -- ---- the memory question's lines are settled by the bytes
 
@@ -115,8 +115,8 @@ pub memory_settled : (s t u : List ℕ) → refusal s ≡ 0 → MemoryLines s t 
 memory_settled s t u h m k =
     m.printed
     ∙ text_settled s m.answer k.answer m.plan₀ m.plan₁ m.peaks₀ m.peaks₁ k.plan₀ k.plan₁ k.peaks₀ k.peaks₁
-    (early_none s (length m.plan₀) (length m.peaks₀) h m.plan-long m.peaks_long)
-    (early_none s (length k.plan₀) (length k.peaks₀) h k.plan-long k.peaks_long)
+    (early_none s (length m.plan₀) (length m.peaks₀) h m.plan_long m.peaks_long)
+    (early_none s (length k.plan₀) (length k.peaks₀) h k.plan_long k.peaks_long)
     m.answers k.answers
     ∙ sym k.printed
 
@@ -129,7 +129,7 @@ same-sizing s (sizing.Sized w all) l l' k k' one other = rw (memories_settled s 
 
 pub rate_settled : (s t u : List ℕ) → RateLine s t → RateLine s u → t ≡ u
 rate_settled s t u m k =
-    let same = sizing_settled s m.sizing k.sizing m.memories₀ m.memories₁ k.memories₀ k.memories₁ (m.memories-long ∙ sym k.memories-long) m.answers k.answers in
+    let same = sizing_settled s m.sizing k.sizing m.memories₀ m.memories₁ k.memories₀ k.memories₁ (m.memories_long ∙ sym k.memories_long) m.answers k.answers in
     m.printed
     ∙ ap (λ (a : Sizing). rate_text a m.memories₁) same
     ∙ same-sizing s k.sizing m.memories₀ m.memories₁ k.memories₀ k.memories₁ (rw same at m.answers) k.answers

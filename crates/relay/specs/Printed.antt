@@ -35,7 +35,7 @@ pub record MemoryLines (s text : List ℕ) : Type 0 where
   pub peaks₀ : List ℕ
   pub peaks₁ : List ℕ
   pub answer : Answer
-  pub plan-long : length plan₀ ≡ plan_length (job_of s)
+  pub plan_long : length plan₀ ≡ plan_length (job_of s)
   pub peaks_long : length peaks₀ ≡ (job_of s).tree.n - 1
   pub answers : Answers answer s plan₀ plan₁ peaks₀ peaks₁
   pub printed : text ≡ memory_text answer s plan₁ peaks₁
@@ -45,17 +45,17 @@ pub record RateLine (s text : List ℕ) : Type 0 where
   pub memories₀ : List ℕ
   pub memories₁ : List ℕ
   pub sizing : Sizing
-  pub memories-long : length memories₀ ≡ (job_of s).tree.n - 1
+  pub memories_long : length memories₀ ≡ (job_of s).tree.n - 1
   pub answers : Sizes sizing s memories₀ memories₁
   pub printed : text ≡ rate_text sizing memories₁
 
 -- both answers, the memory question's first
 pub record BothAnswers (s text : List ℕ) : Type 0 where
-  pub memory-lines : List ℕ
-  pub rate-line : List ℕ
-  pub memory : MemoryLines s memory-lines
-  pub rate : RateLine s rate-line
-  pub printed : text ≡ memory-lines ++ rate-line
+  pub memory_lines : List ℕ
+  pub rate_line : List ℕ
+  pub memory : MemoryLines s memory_lines
+  pub rate : RateLine s rate_line
+  pub printed : text ≡ memory_lines ++ rate_line
 
 -- the text for the bytes s: a job that is refused before both questions has its number alone on one line; any other has both answers
 pub record Printed (s text : List ℕ) : Type 0 where

@@ -39,7 +39,7 @@ Adds l a text p r = (r ≡ a + length text) × (take r p ≡ take a l ++ text)
 -- a job that both questions are asked of, with its plan's length and its links
 pub record Taken (s : List ℕ) (planned links : ℕ) : Type 0 where
   pub plan_is : planned ≡ plan_length (job_of s)
-  pub plan-fits : planned ≤ most_planned
+  pub plan_fits : planned ≤ most_planned
   pub links_are : links ≡ (job_of s).tree.n - 1
   pub links_fit : links ≤ most_links
 

@@ -151,5 +151,5 @@ close_at T ordered f v link = go (ℕ_discrete (T.parent v) 0)
 pub finished : (T : Tree) (F : ℕ → ℕ → ℕ) (v : ℕ) (row above : List ℕ) (memory : ℕ) → Due T F v row above memory
     → tab (λ k. max (row_in row k) (row_in above k - memory)) (length row) ≡ tab (λ k. close T (F k) v) (length row)
 finished T F v row above memory due =
-    tab_both (λ x y. max x (y - memory)) _ _ (length row) row above due.row_up due.above-closed
-    ∙ tab_cong _ _ (length row) (λ k h. rw due.memory-above (close_at T due.ordered (F k) v due.link))
+    tab_both (λ x y. max x (y - memory)) _ _ (length row) row above due.row_up due.above_closed
+    ∙ tab_cong _ _ (length row) (λ k h. rw due.memory_above (close_at T due.ordered (F k) v due.link))

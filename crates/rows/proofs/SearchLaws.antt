@@ -52,7 +52,7 @@ module _ (l u : List ℕ) (s : Searchable l u) where
   pub least_range : least ≤ greatest_total
   least_range =
       (least_peak_is_least (length l - 1) (row_in l) (row_in u)).1 greatest_total (λ j k h i.
-      omega (arith, s.lower-to k (omega (arith, s.some_slot)), mul-le-mul_left greatest_total (one_slot j k h)))
+      omega (arith, s.lower_to k (omega (arith, s.some_slot)), mul-le-mul_left greatest_total (one_slot j k h)))
     where
       one_slot : (j k : ℕ) → j < k → 1 ≤ k - j
       one_slot j k h = omega arith
@@ -72,7 +72,7 @@ module _ (l u : List ℕ) (s : Searchable l u) where
         → (found.excess ≤ greatest_total) × ((0 < found.span * stride) × (found.span * stride ≤ greatest_total))
     step_range h =
         let at = attained h in
-        let low : row_in l at.0 ≤ greatest_total = s.lower-to at.0 (omega (arith, at.3, s.some_slot)) in
+        let low : row_in l at.0 ≤ greatest_total = s.lower_to at.0 (omega (arith, at.3, s.some_slot)) in
         (omega (arith, at.5), (omega (arith, at.2, at.4), omega (arith, at.3, at.4, s.slots_to)))
 
     -- the next peak is higher, and not above the least

@@ -48,5 +48,5 @@ pub record Due (T : Tree) (F : ℕ → ℕ → ℕ) (v : ℕ) (row above : List 
   pub ordered : Ordered T
   pub link : Link T.n v
   pub row_up : row ≡ tab (λ k. pass_up T.parent (close_up T) (T.n - 1) (F k) v) (length row)
-  pub above-closed : above ≡ tab (λ k. cond (eqb (T.parent v) 0) 0 (close T (F k) (T.parent v))) (length row)
-  pub memory-above : memory ≡ T.b (T.parent v)
+  pub above_closed : above ≡ tab (λ k. cond (eqb (T.parent v) 0) 0 (close T (F k) (T.parent v))) (length row)
+  pub memory_above : memory ≡ T.b (T.parent v)

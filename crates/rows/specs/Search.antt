@@ -23,5 +23,5 @@ pub record Searchable (lower upper : List ℕ) : Type 0 where
   pub some_slot : 0 < length lower
   pub slots_to : length lower ≤ most_slots
   pub same_slots : length upper ≡ length lower
-  pub lower-to : InRange lower
-  pub upper-to : InRange upper
+  pub lower_to : InRange lower
+  pub upper_to : InRange upper

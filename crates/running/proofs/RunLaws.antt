@@ -25,7 +25,7 @@ use Rattle.running.specs.declared.Running.{Running}
 use Rattle.running.specs.declared.Outcome.{Outcome}
 use Rattle.running.specs.declared.Outcome.TheVariants.{Taken, Done, Refused}
 use Rattle.running.specs.Running.{carried_in, column, held_at, step_refusal, carried_after, Stepped, start, Run, RunsToItsEnd}
-use Rattle.running.proofs.StepLaws.{breach_refutes, held-within}
+use Rattle.running.proofs.StepLaws.{breach_refutes, held_within}
 use Rattle.running.proofs.AnswerLaws.{step_read}
 
 -- rows of n - 1 numbers are not refused where others were not
@@ -81,7 +81,7 @@ module _ (s plan : List ℕ) where
           arith,
           e,
           get_or-tab (λ i. held_at job (suc x.slot) (column job plan (suc x.slot)) (suc i)) (job.tree.n - 1) i (omega arith),
-          held-within job within (suc x.slot) (carried_in x) (column job plan (suc x.slot)) (column-keeps h) (suc i) (omega arith),
+          held_within job within (suc x.slot) (carried_in x) (column job plan (suc x.slot)) (column-keeps h) (suc i) (omega arith),
         )
 
     -- a column that keeps the rules is taken while slots are left
@@ -156,7 +156,7 @@ module _ (s plan : List ℕ) where
         taken = λ k l. taken_at within keeps state outcome sent held fits (suc (H job)) run k (omega arith) l (at k (omega arith));
         done = is_done (state e) (state (suc e)) (sent e) (sent (suc e)) (held e) (held (suc e)) r.2 (omega (arith, r.0)) (outcome e) (run.steps e (omega arith));
         last_column = r.1;
-        held-within = λ k i l q.
+        held_within = λ k i l q.
             held_next (state k) (state (suc k)) (sent k) (sent (suc k)) (held k) (held (suc k)) within
             (step_at within keeps state outcome sent held fits (suc (H job)) run k (omega arith) l (at k (omega arith)))
             i

@@ -164,9 +164,9 @@ module _ (j : JobData) (within : TreeWithin j.tree) (k : ℕ) (before now : ℕ 
       (true_or_false (leaf j.tree i))
 
   -- held bytes are within a node's memory where the column keeps the rules
-  pub held-within : ColumnKeeps j k before now → (i : ℕ) → Link j.tree.n i → held_at j k now i ≤ j.tree.memory i
+  pub held_within : ColumnKeeps j k before now → (i : ℕ) → Link j.tree.n i → held_at j k now i ≤ j.tree.memory i
   unfolding held_at
-  held-within keeps i l =
+  held_within keeps i l =
       ⊎_elim
       (λ (e : leaf j.tree i ≡ true). rw e (omega (arith, (keeps.p2 i e).1)))
       (λ (e : leaf j.tree i ≡ false).

@@ -117,4 +117,4 @@ pub record RunsToItsEnd (s plan : List ℕ) (state : ℕ → Running) (outcome :
   pub taken : (k : ℕ) → k < H (job_of s) → outcome k ≡ Taken
   pub done : outcome (H (job_of s)) ≡ Done
   pub last_column : (v : ℕ) → link (job_of s).tree.n v ≡ true → carried_in (state (H (job_of s))) v ≡ plan_in (job_of s) plan v (H (job_of s))
-  pub held-within : (k i : ℕ) → k < H (job_of s) → suc i < (job_of s).tree.n → get_or (held (suc k)) i 0 ≤ (job_of s).tree.memory (suc i)
+  pub held_within : (k i : ℕ) → k < H (job_of s) → suc i < (job_of s).tree.n → get_or (held (suc k)) i 0 ≤ (job_of s).tree.memory (suc i)

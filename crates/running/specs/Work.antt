@@ -60,12 +60,12 @@ taken job plan x = tab (after job.nodes (λ v. rows_in (width_of job) plan v (su
 -- the two lent rows have a number for each link
 pub record Rows (job : Job) (sent held : List ℕ) : Type 0 where
   pub sent_long : length sent ≡ job.nodes - 1
-  pub held-long : length held ≡ job.nodes - 1
+  pub held_long : length held ≡ job.nodes - 1
 
 -- what is lent to a step from this slot, where slots are left
 pub record Lent (job : Job) (slot : ℕ) (plan sent held : List ℕ) : Type 0 where
   pub slots_left : slot + 1 < width_of job
-  pub plan-long : length plan ≡ (job.nodes - 1) * width_of job
+  pub plan_long : length plan ≡ (job.nodes - 1) * width_of job
   pub rows : Rows job sent held
 
 -- What the step gives on a job with slots left, from its struct and its sums: no link breaks a rule and the column is taken, or one does and

@@ -28,7 +28,7 @@ module _ (Q : RateQuestion) (good : WellFormedRates Q) (w : ℕ) where
     keeps = served.keeps
 
     rises : (v : ℕ) → Link n v → (k : ℕ) → k < M + w → S v (suc k) ≤ S v k + r v
-    rises v h k l = omega (arith, peak-rises (M + w) (S v) k l, served.within-rate v h)
+    rises v h k l = omega (arith, peak-rises (M + w) (S v) k l, served.within_rate v h)
 
     -- every link has carried what the leaves play: at a leaf by its rule, above it by its children's
     D-carried : (k : ℕ) → k ≤ M + w → (v : ℕ) → Link n v → D Q w k ≤ S v k
@@ -88,7 +88,7 @@ module _ (Q : RateQuestion) (good : WellFormedRates Q) (w : ℕ) where
       where
         held : (k : ℕ) → k ≤ M + w → S v k ≤ D Q w k + b v
         held zero j = omega (arith, keeps.starts v h)
-        held (suc k) j = let l = rw e at (keeps.below-high v h (suc k) j) in omega arith
+        held (suc k) j = let l = rw e at (keeps.below_high v h (suc k) j) in omega arith
 
     excess-parent : (v : ℕ) → Link n v → parent v ≢ 0 → excess (parent v) ≤ excess v + b (parent v)
     excess-parent v h ne =

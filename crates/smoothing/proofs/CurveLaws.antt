@@ -8,7 +8,7 @@ use Rattle.smoothing.proofs.ClosedLaws.{close-least-above, close_monotone, open_
 
 module _ (P : Problem) (good : WellFormed P) where
   open P use {tree, H, low, high}
-  open good use {ordered, low-starts, low-grows, high-starts}
+  open good use {ordered, low_starts, low_grows, high_starts}
 
   -- ---- the lower curve
 
@@ -22,7 +22,7 @@ module _ (P : Problem) (good : WellFormed P) where
 
   pub lower-grows : (v : ℕ) → Link tree.n v → (k : ℕ) → k < H → lower P v k ≤ lower P v (suc k)
   unfolding lower
-  lower-grows v h k r = close_monotone tree ordered (λ w. low w k) (λ w. low w (suc k)) (λ w g. low-grows w g k r) v h
+  lower-grows v h k r = close_monotone tree ordered (λ w. low w k) (λ w. low w (suc k)) (λ w g. low_grows w g k r) v h
 
   -- one number that is above low on every link is above the lower curve too
   pub lower-under_constant : (k c : ℕ) → ((w : ℕ) → Link tree.n w → low w k ≤ c) → (v : ℕ) → Link tree.n v → lower P v k ≤ c
@@ -30,7 +30,7 @@ module _ (P : Problem) (good : WellFormed P) where
   lower-under_constant k c above = (close-least-above tree ordered (λ w. low w k)).least (λ w. c) (closed_constant tree c) above
 
   pub lower-starts : (v : ℕ) → Link tree.n v → lower P v 0 ≡ 0
-  lower-starts v h = omega (arith, lower-under_constant 0 0 (λ w g. omega (arith, low-starts w g)) v h)
+  lower-starts v h = omega (arith, lower-under_constant 0 0 (λ w g. omega (arith, low_starts w g)) v h)
 
   -- ---- the upper curve
 
@@ -49,7 +49,7 @@ module _ (P : Problem) (good : WellFormed P) where
   unfolding lower upper
   plan_between S keeps v h k r = (
     (close-least-above tree ordered (λ w. low w k)).least (λ w. S w k) (keeps.closed k r) (λ w g. keeps.above_low w g k r) v h,
-    (open_greatest-below tree ordered (λ w. high w k)).greatest (λ w. S w k) (keeps.closed k r) (λ w g. keeps.below-high w g k r) v h,
+    (open_greatest-below tree ordered (λ w. high w k)).greatest (λ w. S w k) (keeps.closed k r) (λ w g. keeps.below_high w g k r) v h,
   )
 
   -- so a plan that keeps the rules exists only where the curves do not cross
@@ -61,7 +61,7 @@ module _ (P : Problem) (good : WellFormed P) where
   -- at slot 0 both bounds are 0
   lower-under-high : ((v : ℕ) → Link tree.n v → (k : ℕ) → 0 < k → k ≤ H → lower P v k ≤ high v k)
       → (v : ℕ) → Link tree.n v → (k : ℕ) → k ≤ H → lower P v k ≤ high v k
-  lower-under-high under v h zero r = omega (arith, lower-starts v h, high-starts v h)
+  lower-under-high under v h zero r = omega (arith, lower-starts v h, high_starts v h)
   lower-under-high under v h (suc k) r = under v h (suc k) (omega arith) r
 
   -- where the lower curve is nowhere above high, it is nowhere above the upper curve

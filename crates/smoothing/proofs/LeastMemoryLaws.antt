@@ -259,7 +259,7 @@ module _ (Q : RateQuestion) (good : WellFormedRates Q) (w : ℕ) where
       let ours = (least_totals fast (memory Q w)).1 (memory_covers, memory_spares) in
       record {
         serves = ours.0;
-        least-total = ours.1;
+        least_total = ours.1;
         least_in_order = λ b served same v h before.
             let (covers, spares) = (least_totals fast b).0 (served, λ b' also. omega (arith, same, ours.1 b' also)) in
             no_less b covers spares v h (asked_before b covers spares v before v h (omega arith));

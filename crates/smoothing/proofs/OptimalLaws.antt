@@ -19,8 +19,8 @@ pub optimal_unique : (P : Problem) (S S' : ℕ → ℕ → ℕ) → Optimal P S 
 optimal_unique P S S' one other v h k r =
     omega (
       arith,
-      one.least-carried S' other.keeps (λ w g. same w g) v h k r,
-      other.least-carried S one.keeps (λ w g. sym (same w g)) v h k r,
+      one.least_carried S' other.keeps (λ w g. same w g) v h k r,
+      other.least_carried S one.keeps (λ w g. sym (same w g)) v h k r,
     )
   where
     same : (w : ℕ) → Link P.tree.n w → peak P.H (S' w) ≡ peak P.H (S w)
@@ -30,7 +30,7 @@ optimal_unique P S S' one other v h k r =
 pub optimal_keeps-rates : (P : Problem) (rate : ℕ → ℕ) (S S' : ℕ → ℕ → ℕ) → Optimal P S → KeepsRates P rate S' → KeepsRates P rate S
 optimal_keeps-rates P rate S S' best other = record {
   keeps = best.keeps;
-  within-rate = λ v h. omega (arith, best.least_peaks S' other.keeps v h, other.within-rate v h);
+  within_rate = λ v h. omega (arith, best.least_peaks S' other.keeps v h, other.within_rate v h);
 }
 
 -- ---- whether a plan is optimal depends on the links and slots alone
@@ -41,7 +41,7 @@ module _ (P : Problem) (S S' : ℕ → ℕ → ℕ) (same : (v : ℕ) → Link P
     starts = λ v h. omega (arith, same v h 0 (omega arith), keeps.starts v h);
     grows = λ v h k r. omega (arith, same v h k (omega arith), same v h (suc k) r, keeps.grows v h k r);
     above_low = λ v h k r. omega (arith, same v h k r, keeps.above_low v h k r);
-    below-high = λ v h k r. omega (arith, same v h k r, keeps.below-high v h k r);
+    below_high = λ v h k r. omega (arith, same v h k r, keeps.below_high v h k r);
     closed = λ k r v h ne.
         let o = ordered v h in
         omega (arith, same v h k r, same (P.tree.parent v) (omega arith) k r, keeps.closed k r v h ne);
@@ -53,13 +53,13 @@ module _ (P : Problem) (S S' : ℕ → ℕ → ℕ) (same : (v : ℕ) → Link P
       record {
         keeps = keeps_same ordered best.keeps;
         least_peaks = λ S'' keeps v h. omega (arith, peaks v h, best.least_peaks S'' keeps v h);
-        least-carried = λ S'' keeps equal v h k r.
-            omega (arith, same v h k r, best.least-carried S'' keeps (λ w g. equal w g ∙ sym (peaks w g)) v h k r);
+        least_carried = λ S'' keeps equal v h k r.
+            omega (arith, same v h k r, best.least_carried S'' keeps (λ w g. equal w g ∙ sym (peaks w g)) v h k r);
       }
 
 module _ (P : Problem) (good : WellFormed P) where
   open P use {tree, H, low, high}
-  open good use {ordered, high-starts}
+  open good use {ordered, high_starts}
 
   -- the least peak of a link is the least number that is enough between its curves
   link_peak_is_least : (v : ℕ) → IsLeast (Enough H (lower P v) (upper P v)) (link_peak P v)
@@ -96,10 +96,10 @@ module _ (P : Problem) (good : WellFormed P) where
     -- it keeps the rules
     pub plan-keeps : Keeps P (plan P)
     plan-keeps = record {
-      starts = λ v h. omega (arith, plan-under-upper v h 0 (omega arith), upper-below-high P good v h 0, high-starts v h);
+      starts = λ v h. omega (arith, plan-under-upper v h 0 (omega arith), upper-below-high P good v h 0, high_starts v h);
       grows = plan-rising.grows;
       above_low = λ v h k r. omega (arith, lower-above-low P good v h k, plan-rising.above v h k r);
-      below-high = λ v h k r. omega (arith, plan-under-upper v h k r, upper-below-high P good v h k);
+      below_high = λ v h k r. omega (arith, plan-under-upper v h k r, upper-below-high P good v h k);
       closed = plan-rising.closed;
     }
 
@@ -113,7 +113,7 @@ module _ (P : Problem) (good : WellFormed P) where
     plan_optimal = record {
       keeps = plan-keeps;
       least_peaks = λ S' keeps v h. omega (arith, plan-peak v h, plan-peak_at_least S' keeps v h);
-      least-carried = λ S' keeps same.
+      least_carried = λ S' keeps same.
           plan-rising.least S' keeps.closed (λ v h k r. (plan_between P good S' keeps v h k r).0)
           (λ v h k r. omega (arith, peak-rises H (S' v) k r, same v h, plan-peak v h));
     }
@@ -130,13 +130,13 @@ module _ (P : Problem) (good : WellFormed P) where
   within-rates rate = (
     λ given. (
       plan_feasible P good given.0 given.1.keeps,
-      λ v h. omega (arith, plan-peak_at_least given.0 given.1.keeps v h, given.1.within-rate v h),
+      λ v h. omega (arith, plan-peak_at_least given.0 given.1.keeps v h, given.1.within_rate v h),
     ),
     λ fits. (
       plan P,
       record {
         keeps = plan-keeps fits.0;
-        within-rate = λ v h. omega (arith, plan-peak fits.0 v h, fits.1 v h);
+        within_rate = λ v h. omega (arith, plan-peak fits.0 v h, fits.1 v h);
       },
     ),
   )

@@ -30,12 +30,12 @@ module _ (Q : RateQuestion) (w : ℕ) (good : WellFormedRates Q) where
   pub problem_with_well_formed : (b : ℕ → ℕ) → WellFormed (problem_with Q w b)
   problem_with_well_formed b = record {
     ordered = ordered;
-    low-starts = λ v h.
+    low_starts = λ v h.
         let e : D Q w 0 ≡ 0 = ap T (omega arith) ∙ starts in
         cond_both (leaf n parent v) (λ x. x ≡ 0) _ _ (λ l. e) (λ l. refl);
-    low-grows = λ v h k r.
+    low_grows = λ v h k r.
         ⊎_elim (λ e. rw e (D-grows Q good w k r)) (λ e. rw e (omega arith)) (true_or_false (leaf n parent v));
-    high-starts = λ v h. refl;
+    high_starts = λ v h. refl;
   }
 
   D_ends : (k : ℕ) → k ≤ M + w → D Q w k ≤ T M
@@ -162,9 +162,9 @@ module _ (Q : RateQuestion) (w : ℕ) (good : WellFormedRates Q) where
             grows = sent_rising.grows;
             above_low = λ v h k l.
                 cond_both (leaf n parent v) (λ x. x ≤ sent v k) _ _ (λ e. sent_rising.above v h k l) (λ e. omega arith);
-            below-high = sent_high;
+            below_high = sent_high;
             closed = sent_rising.closed;
           };
-          within-rate = λ v h. peak-least (M + w) (sent v) (r v) (λ k l. omega (arith, sent_rising.rises v h k l, floor_rate_own Q good v h));
+          within_rate = λ v h. peak-least (M + w) (sent v) (r v) (λ k l. omega (arith, sent_rising.rises v h k l, floor_rate_own Q good v h));
         },
       )

@@ -13,16 +13,16 @@ pub record Problem : Type 0 where
 -- what the theory asks of a problem
 pub record WellFormed (P : Problem) : Type 0 where
   pub ordered : Ordered P.tree
-  pub low-starts : (v : ℕ) → Link P.tree.n v → P.low v 0 ≡ 0
-  pub low-grows : (v : ℕ) → Link P.tree.n v → (k : ℕ) → k < P.H → P.low v k ≤ P.low v (suc k)
-  pub high-starts : (v : ℕ) → Link P.tree.n v → P.high v 0 ≡ 0
+  pub low_starts : (v : ℕ) → Link P.tree.n v → P.low v 0 ≡ 0
+  pub low_grows : (v : ℕ) → Link P.tree.n v → (k : ℕ) → k < P.H → P.low v k ≤ P.low v (suc k)
+  pub high_starts : (v : ℕ) → Link P.tree.n v → P.high v 0 ≡ 0
 
 -- the plan S keeps the rules, where S v k is what the link into node v has carried by the end of slot k
 pub record Keeps (P : Problem) (S : ℕ → ℕ → ℕ) : Type 0 where
   pub starts : (v : ℕ) → Link P.tree.n v → S v 0 ≡ 0
   pub grows : (v : ℕ) → Link P.tree.n v → (k : ℕ) → k < P.H → S v k ≤ S v (suc k)
   pub above_low : (v : ℕ) → Link P.tree.n v → (k : ℕ) → k ≤ P.H → P.low v k ≤ S v k
-  pub below-high : (v : ℕ) → Link P.tree.n v → (k : ℕ) → k ≤ P.H → S v k ≤ P.high v k
+  pub below_high : (v : ℕ) → Link P.tree.n v → (k : ℕ) → k ≤ P.H → S v k ≤ P.high v k
   pub closed : (k : ℕ) → k ≤ P.H → Closed P.tree (λ v. S v k)
 
 -- the optimal plan: it keeps the rules; no plan that keeps them has a lower peak on any link;
@@ -30,13 +30,13 @@ pub record Keeps (P : Problem) (S : ℕ → ℕ → ℕ) : Type 0 where
 pub record Optimal (P : Problem) (S : ℕ → ℕ → ℕ) : Type 0 where
   pub keeps : Keeps P S
   pub least_peaks : (S' : ℕ → ℕ → ℕ) → Keeps P S' → (v : ℕ) → Link P.tree.n v → peak P.H (S v) ≤ peak P.H (S' v)
-  pub least-carried : (S' : ℕ → ℕ → ℕ) → Keeps P S' → ((v : ℕ) → Link P.tree.n v → peak P.H (S' v) ≡ peak P.H (S v))
+  pub least_carried : (S' : ℕ → ℕ → ℕ) → Keeps P S' → ((v : ℕ) → Link P.tree.n v → peak P.H (S' v) ≡ peak P.H (S v))
       → (v : ℕ) → Link P.tree.n v → (k : ℕ) → k ≤ P.H → S v k ≤ S' v k
 
 -- the plan S keeps the rules and on no link passes the link's rate
 pub record KeepsRates (P : Problem) (rate : ℕ → ℕ) (S : ℕ → ℕ → ℕ) : Type 0 where
   pub keeps : Keeps P S
-  pub within-rate : (v : ℕ) → Link P.tree.n v → peak P.H (S v) ≤ rate v
+  pub within_rate : (v : ℕ) → Link P.tree.n v → peak P.H (S v) ≤ rate v
 
 -- S is the least family of rows above L that is closed at every slot and rises on each link by at most the rate q of the link;
 -- it never falls

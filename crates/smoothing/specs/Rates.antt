@@ -83,6 +83,6 @@ module _ (Q : RateQuestion) where
   -- where others are the same at all nodes before v, b has no more than they at v
   pub record LeastMemories (w : ℕ) (b : ℕ → ℕ) : Type 0 where
     pub serves : Serves w b
-    pub least-total : (b' : ℕ → ℕ) → Serves w b' → total n b ≤ total n b'
+    pub least_total : (b' : ℕ → ℕ) → Serves w b' → total n b ≤ total n b'
     pub least_in_order : (b' : ℕ → ℕ) → Serves w b' → total n b' ≡ total n b → (v : ℕ) → Link n v
         → ((u : ℕ) → Link n u → u < v → b' u ≡ b u) → b v ≤ b' v

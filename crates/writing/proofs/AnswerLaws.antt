@@ -170,8 +170,8 @@ accepted_if s head long h =
     rw (
       le-ltb (node_count s) fewest_nodes t.nodes_from,
       le-ltb most_nodes (node_count s) t.nodes_to,
-      le-ltb (frame_count s) fewest_frames h.frames-from,
-      le-ltb most_frames (frame_count s) h.frames-to,
+      le-ltb (frame_count s) fewest_frames h.frames_from,
+      le-ltb most_frames (frame_count s) h.frames_to,
     )
     refl in
     at_rest s head sizes long
@@ -209,8 +209,8 @@ answered-within j w b h short small =
             memories = λ i l. let (p, q) = link_in j.tree.n i l in rw (per_node_in j.tree.n b i p q) (small i l);
             rates = t.rates;
           };
-      frames-from = h.frames-from;
-      frames-to = h.frames-to;
+      frames_from = h.frames_from;
+      frames_to = h.frames_to;
       frames = h.frames;
     }
 

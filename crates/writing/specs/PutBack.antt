@@ -70,5 +70,5 @@ Puts s w memories r after =
 pub record Puttable (s : List ℕ) (nodes leaves : ℕ) (memories : List ℕ) : Type 0 where
   pub none : refusal s ≡ 0
   pub count : nodes ≡ node_count s
-  pub leaf-set : (k : ℕ) → has leaves k ≡ leaf (tree_of s) k
+  pub leaf_set : (k : ℕ) → has leaves k ≡ leaf (tree_of s) k
   pub long : length memories ≡ nodes - 1

@@ -84,7 +84,7 @@ returns-then-s-record_place c =
 pub read_rest-requires : goal.read_rest-requires
 read_rest-requires c =
     let (x, y, z, w) = sizes (goal.at.read_rest-requires c).Else-sized-ne0 in
-    (record { nodes_from = x; nodes_to = y; frames-from = z; frames-to = w; long = c.if-s-record_place.false ∙ wanted_is (goal.at.read_rest-requires c).After-struct_known-2-1 }, job_is (goal.at.read_rest-requires c).Else-sized-ne0)
+    (record { nodes_from = x; nodes_to = y; frames_from = z; frames_to = w; long = c.if-s-record_place.false ∙ wanted_is (goal.at.read_rest-requires c).After-struct_known-2-1 }, job_is (goal.at.read_rest-requires c).Else-sized-ne0)
 
 pub returns : goal.returns
 returns c =

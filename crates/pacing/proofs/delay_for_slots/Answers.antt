@@ -12,7 +12,7 @@ use Rattle.pacing.proofs.delay_for_slots.Goals as goal
 pub overflow_mul-r : goal.overflow_mul-r
 overflow_mul-r c =
     let slots : c.args.m + c.args.w ≤ most_frames + longest_delay + 1 =
-    omega (arith, c.requires.film_sums.1, c.requires.film_sums.0.0.frames-to, c.requires.delay_before.to) in
+    omega (arith, c.requires.film_sums.1, c.requires.film_sums.0.0.frames_to, c.requires.delay_before.to) in
     omega (arith, mul-le-mul c.requires.film_sums.0.1 slots)
 
 pub returns-then-sums-to : goal.returns-then-sums-to
@@ -33,7 +33,7 @@ delay_for_slot-w-requires c =
       (
         c.requires.film_sums.0.1,
         (
-          omega (arith, c.loop-m-test.true, c.requires.film_sums.1.1, c.requires.film_sums.0.0.frames-to),
+          omega (arith, c.loop-m-test.true, c.requires.film_sums.1.1, c.requires.film_sums.0.0.frames_to),
           c.loop-m.invariant.1.to,
         ),
       ),

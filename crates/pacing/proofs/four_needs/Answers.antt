@@ -33,7 +33,7 @@ this c = omega (arith, c.loop-j.invariant.0)
 inside_sums : (c : In-loop-j) → next_place c < length (sums_in_lem c)
 inside_sums c =
     let pre = c.requires in
-    omega (arith, pre.a.passes.track.inside c.loop-j.j c.loop-j-test.true, pre.with_places.film.holds.some-sum)
+    omega (arith, pre.a.passes.track.inside c.loop-j.j c.loop-j-test.true, pre.with_places.film.holds.some_sum)
 
 rising : (c : In-loop-j) (u : ℕ) → u < c.loop-j.j → get_or (places_in c) u 0 < get_or (places_in c) (suc u) 0
 rising c u h = c.requires.a.passes.track.rising u (omega (arith, c.loop-j-test.true))
@@ -55,7 +55,7 @@ small c r lead right by =
       omega (arith, by.so_much, under, sum_fits sums pre.with_places.film.holds (get_or (places_in c) (c.loop-j.j - 1) 0)),
       (
         omega (arith, place-fits sums pre.with_places.film.holds _ (inside_sums c)),
-        (omega (arith, inside_sums c, pre.with_places.film.frames-to), right.rate),
+        (omega (arith, inside_sums c, pre.with_places.film.frames_to), right.rate),
       ),
     )
 
@@ -76,7 +76,7 @@ loop-j-init c =
     lead_start (sums_in sums) c.args.places.now in (
       omega arith,
       (
-        omega (arith, places.some-place),
+        omega (arith, places.some_place),
         (
           sym places.starts,
           (sym (film_of sums c.requires.with_places.film.holds).starts, (first _, (first _, (first _, first _)))),
@@ -91,21 +91,21 @@ offset_bounds-places-j c =
       arith,
       c.loop-j-test.true,
       pre.a.passes.track.few,
-      pre.with_places.film.frames-to,
-      pre.with_places.film.holds.some-sum,
+      pre.with_places.film.frames_to,
+      pre.with_places.film.holds.some_sum,
     )
 
 pub bounds-places-j : goal.bounds-places-j
 bounds-places-j c =
     let pre = c.requires in
-    omega (arith, c.loop-j-test.true, pre.a.passes.track.few, pre.with_places.room, pre.with_places.film.holds.some-sum)
+    omega (arith, c.loop-j-test.true, pre.a.passes.track.few, pre.with_places.room, pre.with_places.film.holds.some_sum)
 
 pub offset_bounds-sums-to : goal.offset_bounds-sums-to
-offset_bounds-sums-to c = omega (arith, inside_sums (goal.at.offset_bounds-sums-to c).In-loop-j, c.requires.with_places.film.frames-to)
+offset_bounds-sums-to c = omega (arith, inside_sums (goal.at.offset_bounds-sums-to c).In-loop-j, c.requires.with_places.film.frames_to)
 
 pub bounds-sums-to : goal.bounds-sums-to
 bounds-sums-to c = (let pre = c.requires in
-    omega (arith, pre.a.passes.track.inside c.loop-j.j c.loop-j-test.true, pre.with_places.film.holds.some-sum))
+    omega (arith, pre.a.passes.track.inside c.loop-j.j c.loop-j-test.true, pre.with_places.film.holds.some_sum))
 
 pub overflow_sub-played : goal.overflow_sub-played
 overflow_sub-played c =

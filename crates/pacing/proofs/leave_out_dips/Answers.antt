@@ -37,15 +37,15 @@ this_turn c =
     l.invariant.1.1.1.1.0
 
 next_inside : (c : In-loop-j) → next_place c < length (sums_in_lem c)
-next_inside c = omega (arith, (this_turn c).inside, c.requires.with_places.film.holds.some-sum)
+next_inside c = omega (arith, (this_turn c).inside, c.requires.with_places.film.holds.some_sum)
 
 room : (c : In-loop-j) → c.loop-j.j < length c.loop-j.places
 room c =
     let pre = c.requires in
-    omega (arith, (this_turn c).few, pre.with_places.film.holds.some-sum, pre.with_places.room, c.loop-j.invariant.1.1.0)
+    omega (arith, (this_turn c).few, pre.with_places.film.holds.some_sum, pre.with_places.room, c.loop-j.invariant.1.1.0)
 
 short : (c : In-loop-j) → c.loop-j.j ≤ most_frames
-short c = omega (arith, (this_turn c).few, c.requires.with_places.film.frames-to)
+short c = omega (arith, (this_turn c).few, c.requires.with_places.film.frames_to)
 
 -- the turn, by the stop at the next place and what is made of it
 module _ (c : In-loop-j) (s : Stop) (t : SinceValley) (is : s ≡ next_stop (sums_in (sums_in_lem c)) (next_place c) (high_in c) c.loop-j.s)
@@ -78,7 +78,7 @@ loop-j-init c =
     let places = c.args.places.now in (
       omega arith,
       (
-        omega (arith, track.some-place),
+        omega (arith, track.some_place),
         (
           refl,
           (
@@ -105,7 +105,7 @@ bounds-places-j c = (let pre = c.requires in
           turn (sums_in (sums_in_lem (goal.at.bounds-places-j c).In-loop-j)) (film_of (sums_in_lem (goal.at.bounds-places-j c).In-loop-j) c.requires.with_places.film.holds).grows _ (old_in (goal.at.bounds-places-j c).In-loop-j) l.places
           c.args.count l.j (high_in (goal.at.bounds-places-j c).In-loop-j) l.s c.requires.track l.invariant.0 c.loop-j-test.true l.invariant.1.1.1.0
           l.invariant.1.1.1.1.0)).few,
-      pre.with_places.film.holds.some-sum,
+      pre.with_places.film.holds.some_sum,
       pre.with_places.room,
       c.loop-j.invariant.1.1.0,
     ))

@@ -37,15 +37,15 @@ this_turn c =
     l.invariant.1.1.1.1.0
 
 next_inside : (c : In-loop-j) → next_place c < length (sums_in_lem c)
-next_inside c = omega (arith, (this_turn c).inside, c.requires.0.with_places.film.holds.some-sum)
+next_inside c = omega (arith, (this_turn c).inside, c.requires.0.with_places.film.holds.some_sum)
 
 room : (c : In-loop-j) → c.loop-j.j < length c.loop-j.places
 room c =
     let pre = c.requires in
-    omega (arith, (this_turn c).few, pre.0.with_places.film.holds.some-sum, pre.0.with_places.room, c.loop-j.invariant.1.1.0)
+    omega (arith, (this_turn c).few, pre.0.with_places.film.holds.some_sum, pre.0.with_places.room, c.loop-j.invariant.1.1.0)
 
 short : (c : In-loop-j) → c.loop-j.j ≤ most_frames
-short c = omega (arith, (this_turn c).few, c.requires.0.with_places.film.frames-to)
+short c = omega (arith, (this_turn c).few, c.requires.0.with_places.film.frames_to)
 
 -- the turn, by the stop at the next place and what is made of it
 module _ (c : In-loop-j) (s : Stop) (t : SincePeak) (is : s ≡ next_stop (sums_in (sums_in_lem c)) (next_place c) (low_in c) c.loop-j.s)
@@ -80,7 +80,7 @@ loop-j-init c =
     let places = c.args.places.now in (
       omega arith,
       (
-        omega (arith, track.some-place),
+        omega (arith, track.some_place),
         (
           refl,
           (
@@ -107,7 +107,7 @@ bounds-places-j c = (let pre = c.requires in
           turn (sums_in (sums_in_lem (goal.at.bounds-places-j c).In-loop-j)) (film_of (sums_in_lem (goal.at.bounds-places-j c).In-loop-j) c.requires.0.with_places.film.holds).grows _ (old_in (goal.at.bounds-places-j c).In-loop-j) l.places
           c.args.count l.j (low_in (goal.at.bounds-places-j c).In-loop-j) l.s c.requires.0.track l.invariant.0 c.loop-j-test.true l.invariant.1.1.1.0
           l.invariant.1.1.1.1.0)).few,
-      pre.0.with_places.film.holds.some-sum,
+      pre.0.with_places.film.holds.some_sum,
       pre.0.with_places.room,
       c.loop-j.invariant.1.1.0,
     ))
@@ -144,7 +144,7 @@ next_since_peak-t-requires c =
     let slack : c.minus-slack.result ≤ greatest_total = omega (arith, c.minus-slack.ensures, pre.1) in
     record {
       last_to = few;
-      peak-to = omega (arith, few, so.order);
+      peak_to = omega (arith, few, so.order);
       under = omega (arith, so.floored, so.barred);
       lead_to = lead-small;
       slack_to = slack;

@@ -15,7 +15,7 @@ use Rattle.pacing.proofs.leave_out_small_frames.Goals as goal
 use Rattle.pacing.proofs.leave_out_small_frames.Goals.{After-max-largest, In-loop-m}
 
 pub bounds-places-0 : goal.bounds-places-0
-bounds-places-0 c = omega (arith, c.requires.0.room, c.requires.0.film.holds.some-sum)
+bounds-places-0 c = omega (arith, c.requires.0.room, c.requires.0.film.holds.some_sum)
 
 pub loop-m-init : goal.loop-m-init
 loop-m-init c =
@@ -23,12 +23,12 @@ loop-m-init c =
     let pre = c.requires in (
       omega arith,
       (
-        omega (arith, pre.0.film.holds.some-sum),
+        omega (arith, pre.0.film.holds.some_sum),
         (
           refl,
           (
             steps-start (sums_in c.args.sums.now) c.args.low _
-                (get_or-set_same places 0 0 0 (omega (arith, pre.0.room, pre.0.film.holds.some-sum))),
+                (get_or-set_same places 0 0 0 (omega (arith, pre.0.room, pre.0.film.holds.some_sum))),
             λ r. omega arith,
           ),
         ),
@@ -54,7 +54,7 @@ overflow_sub-frame-in-loop-m c = c.requires.0.film.holds.grows (c.loop-m.m - 1)
 
 pub overflow_add-k : goal.overflow_add-k
 overflow_add-k c =
-    omega (arith, few (goal.at.overflow_add-k c).In-loop-m, c.requires.0.film.frames-to)
+    omega (arith, few (goal.at.overflow_add-k c).In-loop-m, c.requires.0.film.frames_to)
 
 -- the count stays, or is one more
 counted : (c : After-max-largest) → let k = c.loop-m.k in (k ≤ c.select_usize-k.result)
@@ -66,14 +66,14 @@ counted c =
     (omega arith, omega arith) (omega arith, omega arith)
 
 pub overflow_sub-places : goal.overflow_sub-places
-overflow_sub-places c = omega (arith, counted c, c.loop-m.invariant.1.1.1.0.steps.some-place)
+overflow_sub-places c = omega (arith, counted c, c.loop-m.invariant.1.1.1.0.steps.some_place)
 
 pub offset_bounds-places-k : goal.offset_bounds-places-k
 offset_bounds-places-k c = omega (
   arith,
   counted c,
   few (goal.at.offset_bounds-places-k c).In-loop-m,
-  c.requires.0.film.frames-to,
+  c.requires.0.film.frames_to,
 )
 
 pub bounds-places-k : goal.bounds-places-k

@@ -41,7 +41,7 @@ overflow_add-last c =
     omega (
       arith,
       selected (ltb t.floor c.args.lead) t.last t.peak _ 0 most_frames c.select_usize-last.ensures
-          (omega arith, c.requires.last_to) (omega arith, c.requires.peak-to),
+          (omega arith, c.requires.last_to) (omega arith, c.requires.peak_to),
     )
 
 pub returns : goal.returns

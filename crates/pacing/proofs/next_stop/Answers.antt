@@ -30,7 +30,7 @@ overflow_add-s c =
 
 pub overflow_mul-r : goal.overflow_mul-r
 overflow_mul-r c =
-    let slots : c.args.to - c.args.s.at ≤ most_frames = omega (arith, c.requires.inside, c.requires.film.frames-to) in
+    let slots : c.args.to - c.args.s.at ≤ most_frames = omega (arith, c.requires.inside, c.requires.film.frames_to) in
     omega (arith, mul-le-mul c.requires.rate slots)
 
 pub returns : goal.returns

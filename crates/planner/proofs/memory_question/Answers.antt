@@ -54,7 +54,7 @@ returns-then-plan-plan_length c =
     (refl, (refl, inl (sym early, λ z. absurd (omega (arith, early)))))
 
 pub overflow_sub-job : goal.overflow_sub-job
-overflow_sub-job c = omega (arith, (accepted (goal.at.overflow_sub-job c).Else-read-ne0).tree-within.nodes_from)
+overflow_sub-job c = omega (arith, (accepted (goal.at.overflow_sub-job c).Else-read-ne0).tree_within.nodes_from)
 
 pub returns-then-peaks-job : goal.returns-then-peaks-job
 unfolding Answers
@@ -65,7 +65,7 @@ returns-then-peaks-job c =
 
 pub with_job-requires : goal.with_job-requires
 with_job-requires c =
-    (accepted (goal.at.with_job-requires c).Else-read-ne0, record { plan-long = c.if-plan-plan_length.false ∙ plan_is (goal.at.with_job-requires c).After-plan_length; peaks_long = c.if-peaks-job.false })
+    (accepted (goal.at.with_job-requires c).Else-read-ne0, record { plan_long = c.if-plan-plan_length.false ∙ plan_is (goal.at.with_job-requires c).After-plan_length; peaks_long = c.if-peaks-job.false })
 
 pub returns : goal.returns
 returns c =

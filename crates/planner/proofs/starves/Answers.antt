@@ -120,7 +120,7 @@ bounds-job-i-in-loop-k c = small (goal.at.bounds-job-i-in-loop-k c).After-lowest
 
 pub played-plays-requires : goal.played-plays-requires
 played-plays-requires c =
-    c.requires.film.some-sum
+    c.requires.film.some_sum
 
 pub bounds-lowers-k : goal.bounds-lowers-k
 bounds-lowers-k c = c.loop-k-test.true

@@ -29,19 +29,19 @@ wide c = c.starves.auto.lowers
 sized : (c : Else-starves) → let a = c.args in
     length a.plan.now ≡ (a.job.nodes - 1) * length c.starves.new.lowers
 sized c =
-    c.requires.1.plan-long ∙ ap (λ (n : ℕ). (c.args.job.nodes - 1) * n) (sym (wide c))
+    c.requires.1.plan_long ∙ ap (λ (n : ℕ). (c.args.job.nodes - 1) * n) (sym (wide c))
 
 pub overflow_sub-last : goal.overflow_sub-last
 overflow_sub-last c = omega (arith, wide c, (ready c).wide)
 
 pub overflow_sub-total : goal.overflow_sub-total
-overflow_sub-total c = (ready c).given.film.some-sum
+overflow_sub-total c = (ready c).given.film.some_sum
 
 pub offset_bounds-sums-sums : goal.offset_bounds-sums-sums
-offset_bounds-sums-sums c = let g = (ready c).given in omega (arith, g.long, g.frames-to)
+offset_bounds-sums-sums c = let g = (ready c).given in omega (arith, g.long, g.frames_to)
 
 pub bounds-sums-sums : goal.bounds-sums-sums
-bounds-sums-sums c = omega (arith, ((c.requires.0)).given.film.some-sum)
+bounds-sums-sums c = omega (arith, ((c.requires.0)).given.film.some_sum)
 
 pub upper_rows-requires : goal.upper_rows-requires
 upper_rows-requires c =
@@ -86,7 +86,7 @@ returns c =
     let k = c.close_rows in
     let w = length a.lowers.now in
     let long : length k.new.plan ≡ (a.job.nodes - 1) * w =
-    k.auto.plan ∙ f.auto.plan ∙ c.upper_rows.auto.table ∙ c.requires.1.plan-long in (
+    k.auto.plan ∙ f.auto.plan ∙ c.upper_rows.auto.table ∙ c.requires.1.plan_long in (
       ap (λ (n : ℕ). n - 1) (wide (goal.at.returns c).Else-starves),
       (
         refl,

@@ -17,7 +17,7 @@ unfolding H
 width_is c = ap (λ (n : ℕ). n + 1) (c.last_slot-width.ensures (λ m. 0))
 
 width_fits : (c : After-last_slot-width) → width_of c.args.job ≤ most_slots
-width_fits c = omega (arith, greatest_delay_le (tree_in c.args.job) c.requires.0.tree, c.requires.0.frames-to)
+width_fits c = omega (arith, greatest_delay_le (tree_in c.args.job) c.requires.0.tree, c.requires.0.frames_to)
 
 -- a row's room cut to the width
 cut : (c : After-last_slot-width) (room : List ℕ) → most_slots ≡ length room → length (take (c.last_slot-width.result + 1 - 0) room) ≡ width_of c.args.job
@@ -45,8 +45,8 @@ with_rows-requires c =
         same = kept ∙ sym lowers;
       },
       record {
-        plan-long =
-            c.requires.1.plan-long ∙ ap (λ (n : ℕ). (c.args.job.nodes - 1) * n) (sym lowers);
+        plan_long =
+            c.requires.1.plan_long ∙ ap (λ (n : ℕ). (c.args.job.nodes - 1) * n) (sym lowers);
         peaks_long = c.requires.1.peaks_long;
       },
     )

@@ -17,7 +17,7 @@ use Rattle.radio.proofs.fill_line.Goals.{After-min-r, After-start_delay-d}
 rate-fits : (c : After-min-r) → c.min-r.result ≤ greatest_rate
 rate-fits c =
     let M = length c.args.sums.now - 1 in
-    let inside : M < length c.args.sums.now = omega (arith, c.requires.0.holds.some-sum) in
+    let inside : M < length c.args.sums.now = omega (arith, c.requires.0.holds.some_sum) in
     omega (arith, c.min-r.ensures, place-fits c.args.sums.now c.requires.0.holds M inside, total_in_memory)
 
 -- it is the smaller of the one given and T(M)

@@ -5,6 +5,6 @@ pub with_room-requires-2 : goal.with_room-requires-2
 with_room-requires-2 c =
     let pre = c.requires in
     record {
-      accepted = (pre.0, omega (arith, c.long_room-room.ensures, pre.0.frames, pre.0.within.frames-to));
+      accepted = (pre.0, omega (arith, c.long_room-room.ensures, pre.0.frames, pre.0.within.frames_to));
       lines_len = pre.1;
     }

@@ -36,7 +36,7 @@ returns-then-read-ne0 c =
     (refl, inl (number ∙ sym early, λ z. h (sym early ∙ z)))
 
 pub overflow_sub-job : goal.overflow_sub-job
-overflow_sub-job c = omega (arith, (accepted (goal.at.overflow_sub-job c).Else-read-ne0).tree-within.nodes_from)
+overflow_sub-job c = omega (arith, (accepted (goal.at.overflow_sub-job c).Else-read-ne0).tree_within.nodes_from)
 
 pub returns-then-memories-job : goal.returns-then-memories-job
 unfolding Sizes

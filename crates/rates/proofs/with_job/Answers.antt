@@ -6,7 +6,7 @@ with_rooms-requires-2 c =
     let pre = c.requires in record {
       accepted = pre;
       frames_in_bounds = (
-        omega (arith, c.long_room-room.ensures, pre.0.frames, pre.0.within.frames-to),
-        omega (arith, c.long_room-places.ensures, pre.0.frames, pre.0.within.frames-to),
+        omega (arith, c.long_room-room.ensures, pre.0.frames, pre.0.within.frames_to),
+        omega (arith, c.long_room-places.ensures, pre.0.frames, pre.0.within.frames_to),
       );
     }

@@ -74,7 +74,7 @@ returns-3 c =
     )
 
 sub-both : tie.Need-overflow-sub-both
-sub-both c = omega (arith, (accepted c.before.before.before.before).tree-within.nodes_from)
+sub-both c = omega (arith, (accepted c.before.before.before.before).tree_within.nodes_from)
 
 both-requires : tie.Need-both-requires
 both-requires c κs =
@@ -82,9 +82,9 @@ both-requires c κs =
     let st = c.before.before.before.before.before.before.before.before.before.before.before in (
       record {
         plan_is = length_is c.before.before.before;
-        plan-fits = omega (arith, c.before.before.if3.false);
+        plan_fits = omega (arith, c.before.before.if3.false);
         links_are = ap (λ (t : Tree). t.n - 1) acc.held;
-        links_fit = omega (arith, acc.tree-within.nodes_to);
+        links_fit = omega (arith, acc.tree_within.nodes_to);
       },
       st.requires,
     )

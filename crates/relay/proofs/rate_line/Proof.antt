@@ -41,7 +41,7 @@ returns c =
               memories₀ = st.args.memories.now;
               memories₁ = q.new.1.0;
               sizing = Refused g.0.0;
-              memories-long = st.requires.0;
+              memories_long = st.requires.0;
               answers = rw g.1 at q.ensures;
               printed = refl;
             };
@@ -70,7 +70,7 @@ returns-2 c =
               memories₀ = st.args.memories.now;
               memories₁ = q.new.1.0;
               sizing = Sized g.0.0 g.0.1.0;
-              memories-long = st.requires.0;
+              memories_long = st.requires.0;
               answers = rw g.1 at q.ensures;
               printed = refl;
             };

@@ -18,7 +18,7 @@ unfolding H
 width_is c = ap (λ (n : ℕ). n + 1) (c.last_slot-width.ensures (λ m. 0))
 
 width_fits : (c : After-last_slot-width) → width_of c.args.job ≤ most_slots
-width_fits c = omega (arith, greatest_delay_le (tree_in c.args.job) c.requires.0.tree, c.requires.0.frames-to)
+width_fits c = omega (arith, greatest_delay_le (tree_in c.args.job) c.requires.0.tree, c.requires.0.frames_to)
 
 -- the column read is the one that a step takes
 column_is : (c : After-take_column-column) → c.take_column-column.result ≡ taken c.args.job c.args.plan.now c.args.state
@@ -38,7 +38,7 @@ take_column-column-requires c = (
   (omega (arith, c.requires.0.tree.nodes_from), c.requires.0.tree.nodes_to),
   (
     (omega (arith, width_is (goal.at.take_column-column-requires c).After-last_slot-width, c.requires.1.slots_left), omega (arith, width_is (goal.at.take_column-column-requires c).After-last_slot-width, width_fits (goal.at.take_column-column-requires c).After-last_slot-width)),
-    c.requires.1.plan-long ∙ ap (λ (w : ℕ). (c.args.job.nodes - 1) * w) (sym (width_is (goal.at.take_column-column-requires c).After-last_slot-width)),
+    c.requires.1.plan_long ∙ ap (λ (w : ℕ). (c.args.job.nodes - 1) * w) (sym (width_is (goal.at.take_column-column-requires c).After-last_slot-width)),
   ),
 )
 

@@ -41,7 +41,7 @@ pub held_at-requires : goal.held_at-requires
 held_at-requires c = (c.requires.0.0, (omega (arith, near (goal.at.held_at-requires c).In-loop-i), c.requires.0.1))
 
 pub bounds-held-i : goal.bounds-held-i
-bounds-held-i c = omega (arith, c.loop-i.invariant.1.1.0, c.loop-i-test.true, c.requires.1.held-long)
+bounds-held-i c = omega (arith, c.loop-i.invariant.1.1.0, c.loop-i-test.true, c.requires.1.held_long)
 
 pub loop-i-preserved : goal.loop-i-preserved
 loop-i-preserved c =
@@ -50,7 +50,7 @@ loop-i-preserved c =
     let sent = c.minus.ensures in
     let held = c.held_at.ensures in (
       rw (rw add-one at sent) (filled_more (λ i. get_or a.column.now (suc i) 0 - get_or a.carried.now (suc i) 0) l.i _ l.sent l.invariant.0 (omega (arith, c.loop-i-test.true, c.requires.1.sent_long))),
-      rw (rw add-one at held) (filled_more (λ i. work.held (tree_in a.job) (sums_in a.sums.now) a.k (family_in a.column.now) (suc i)) l.i _ l.held l.invariant.1 (omega (arith, c.loop-i-test.true, c.requires.1.held-long))),
+      rw (rw add-one at held) (filled_more (λ i. work.held (tree_in a.job) (sums_in a.sums.now) a.k (family_in a.column.now) (suc i)) l.i _ l.held l.invariant.1 (omega (arith, c.loop-i-test.true, c.requires.1.held_long))),
     )
 
 pub shape_of-sent : goal.shape_of-sent
@@ -64,5 +64,5 @@ returns c =
     let l = c.loop-i in
     record {
       sent_after = filled-done _ l.i _ l.sent l.invariant.0 (omega (arith, c.loop-i-test.false, c.requires.1.sent_long)) ∙ ap (tab _) c.requires.1.sent_long;
-      held_after = filled-done _ l.i _ l.held l.invariant.1 (omega (arith, c.loop-i-test.false, c.requires.1.held-long)) ∙ ap (tab _) c.requires.1.held-long;
+      held_after = filled-done _ l.i _ l.held l.invariant.1 (omega (arith, c.loop-i-test.false, c.requires.1.held_long)) ∙ ap (tab _) c.requires.1.held_long;
     }

@@ -21,7 +21,7 @@ returns-then-job-lt-MIDDLE_ROOM c =
 pub sums-sums-requires-2 : goal.sums-sums-requires-2
 sums-sums-requires-2 c =
     let acc = c.requires.0 in
-    (acc, omega (arith, acc.frames, acc.within.frames-to, c.long_room-room.ensures))
+    (acc, omega (arith, acc.frames, acc.within.frames_to, c.long_room-room.ensures))
 
 pub advance-requires-2 : goal.advance-requires-2
 advance-requires-2 c =

@@ -32,7 +32,7 @@ returns-then-some_memory_wrong c =
     (sym c.some_memory_wrong.ensures ∙ c.if-some_memory_wrong.true)
 
 pub overflow_sub-nodes : goal.overflow_sub-nodes
-overflow_sub-nodes c = omega (arith, (accepted (goal.at.overflow_sub-nodes c).Else-read-ne0).tree-within.nodes_from)
+overflow_sub-nodes c = omega (arith, (accepted (goal.at.overflow_sub-nodes c).Else-read-ne0).tree_within.nodes_from)
 
 pub returns-then-memories-nodes : goal.returns-then-memories-nodes
 returns-then-memories-nodes c =
@@ -40,7 +40,7 @@ returns-then-memories-nodes c =
     (sym c.some_memory_wrong.ensures ∙ c.if-some_memory_wrong.false) (λ z. c.if-memories-nodes.true (z ∙ ap (λ (n : ℕ). n - 1) (sym (nodes_are (goal.at.returns-then-memories-nodes c).Else-read-ne0))))
 
 pub leaves-requires : goal.leaves-requires
-leaves-requires c = let w = (accepted (goal.at.leaves-requires c).Else-read-ne0).tree-within in (w.nodes_from, w.nodes_to)
+leaves-requires c = let w = (accepted (goal.at.leaves-requires c).Else-read-ne0).tree_within in (w.nodes_from, w.nodes_to)
 
 pub put_records-requires : goal.put_records-requires
 put_records-requires c =
@@ -48,7 +48,7 @@ put_records-requires c =
     record {
       none = h.none;
       count = nodes_are (goal.at.put_records-requires c).Else-read-ne0;
-      leaf-set = λ k. c.leaves.ensures k ∙ ap (λ (t : Tree). leaf t k) h.held;
+      leaf_set = λ k. c.leaves.ensures k ∙ ap (λ (t : Tree). leaf t k) h.held;
       long = c.if-memories-nodes.false;
     }
 

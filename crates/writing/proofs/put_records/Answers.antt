@@ -48,7 +48,7 @@ loop-i-preserved c =
             l.invariant.0
             (omega arith)
             l.invariant.1.1
-            (m.ensures ∙ c.requires.leaf-set l.i),
+            (m.ensures ∙ c.requires.leaf_set l.i),
       ),
     )
 

@@ -65,7 +65,7 @@ returns-then-plan-plan_length c =
     rw c.refused-then-plan-plan_length.ensures (refl, (refl, (refl, inl (sym early, (λ z. absurd (omega (arith, early)), refl)))))
 
 pub overflow_sub-job : goal.overflow_sub-job
-overflow_sub-job c = omega (arith, (accepted (goal.at.overflow_sub-job c).Else-read-ne0).tree-within.nodes_from)
+overflow_sub-job c = omega (arith, (accepted (goal.at.overflow_sub-job c).Else-read-ne0).tree_within.nodes_from)
 
 pub returns-then-sent-job : goal.returns-then-sent-job
 unfolding Stepped
@@ -75,7 +75,7 @@ returns-then-sent-job c =
     rw c.refused-then-sent-job.ensures (refl, (refl, (refl, inl (sym early, (λ z. absurd (omega (arith, early)), refl)))))
 
 pub overflow_sub-job-2 : goal.overflow_sub-job-2
-overflow_sub-job-2 c = omega (arith, (accepted (goal.at.overflow_sub-job-2 c).Else-read-ne0).tree-within.nodes_from)
+overflow_sub-job-2 c = omega (arith, (accepted (goal.at.overflow_sub-job-2 c).Else-read-ne0).tree_within.nodes_from)
 
 pub returns-then-held-job : goal.returns-then-held-job
 unfolding Stepped
@@ -97,8 +97,8 @@ with_job-requires c = (
   accepted (goal.at.with_job-requires c).Else-read-ne0,
   record {
     slots_left = omega (arith, width_is (goal.at.with_job-requires c).After-last_slot-last, c.if-last-self.false);
-    plan-long = c.if-plan-plan_length.false ∙ plan_is (goal.at.with_job-requires c).After-plan_length;
-    rows = record { sent_long = c.if-sent-job.false; held-long = c.if-held-job.false };
+    plan_long = c.if-plan-plan_length.false ∙ plan_is (goal.at.with_job-requires c).After-plan_length;
+    rows = record { sent_long = c.if-sent-job.false; held_long = c.if-held-job.false };
   },
 )
 

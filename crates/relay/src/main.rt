@@ -15,6 +15,7 @@ ghost use Rattle.relay.specs.Room.{Adds, Taken, RateAdded};
 use job::Job;
 use planner::Answer;
 use rates::Sizing;
+use std::io::{Read, Write};
 
 // Refusal 15, and the most bytes of a job and the most numbers of a plan that are taken.
 const TOO_LARGE: u64 = 15;
@@ -265,20 +266,18 @@ struct Input {
 }
 
 // Reads until `buf` is full, the input ends or a read fails. A read may give fewer bytes than asked for.
-fn read_job(buf: &mut [u8]) -> Input
+fn read_job<R: Read>(input: &mut R, buf: &mut [u8]) -> Input
     ensures { IsPrefixLen result.count buf.new }
 {
     let mut count = 0;
     while count < buf.len() {
         let end = buf.len();
-        let got = libc::read(0, &mut buf[count..end]);
-        if got < 0 {
+        let Ok(more) = input.read(&mut buf[count..end]) else {
             return Input {
                 count,
                 failed: true,
             };
-        }
-        let more = io::count(got, &buf[count..end]);
+        };
         if more == 0 {
             break;
         }
@@ -290,21 +289,26 @@ fn read_job(buf: &mut [u8]) -> Input
     }
 }
 
-fn show(bytes: &[u8]) {
+// Standard error gets this line; where it takes nothing, there is nobody to tell.
+fn complain<W: Write>(errors: &mut W, line: &[u8]) {
+    let _told = errors.write_all(line).is_ok();
+}
+
+fn show<W: Write, E: Write>(output: &mut W, errors: &mut E, bytes: &[u8]) {
     let mut text = text_room();
     let count = answer(bytes, &mut text);
-    if !io::write_all(1, &text[..count]) {
-        io::write_all(2, b"relay: the answer could not be written\n");
+    if output.write_all(&text[..count]).is_err() {
+        complain(errors, b"relay: the answer could not be written\n");
     }
 }
 
-fn main() {
+fn main(rt: HostRuntime) {
     let mut buf = job_room();
-    let input = read_job(&mut buf);
+    let input = read_job(&mut rt.stdin(), &mut buf);
     let count = input.count;
     if input.failed {
-        io::write_all(2, b"relay: standard input could not be read\n");
+        complain(&mut rt.stderr(), b"relay: standard input could not be read\n");
     } else {
-        show(&buf[..count]);
+        show(&mut rt.stdout(), &mut rt.stderr(), &buf[..count]);
     }
 }

@@ -1,0 +1,17 @@
+use mathlib.Core.Path.{◌≡◌, refl, ◌∙◌}
+use Prim.Native.Nat.{◌+◌, ◌-◌, ◌*◌, ◌≤◌}
+use native.Mathlib.Omega.{arith}
+use lib.ListN.{length}
+use borrow.Author.Rules.{rules}
+use Rattle.base.specs.Table.{rows_of}
+use Rattle.planner.proofs.PlaceLaws.{row_most}
+use Rattle.relay.proofs.TextLaws.{adds_none, adds_more, adds_as, line-fits, line_next, lines_more}
+use Rattle.relay.specs.Room.{node_room, Adds, word_width}
+use Rattle.relay.specs.Text.{node_line}
+use Rattle.relay.proofs.add_nodes.Given as goal
+
+abbrev pub invariant-loop-i : goal.invariant-loop-i
+invariant-loop-i l = (l.i ≤ length l.peaks) × ((length l.out ≡ length l.initial.out) × (Adds l.initial.out l.at (rows_of (node_line l.bytes l.plan l.peaks) l.i) l.out l.end × (l.end ≤ l.at + l.i * node_room l.bytes)))
+
+abbrev pub decreases-loop-i : goal.decreases-loop-i
+decreases-loop-i l = length l.peaks - l.i

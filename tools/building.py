@@ -4,14 +4,16 @@ import fcntl
 import os
 import re
 import shlex
+import shutil
 import subprocess
+from dataclasses import dataclass
 
 from files import Problem, reason
 
 ROOT = os.path.dirname(os.path.dirname(os.path.realpath(__file__)))
-TARGET = os.path.join(ROOT, "target")
-# A crate that is done, as rt tells it: proved, not changed since, or put into a library, which is proved on the way.
-DONE = re.compile(r"rt: (?:target/staticlib/lib(\w+)\.a has|(\w+) proved \((?:(\d+) s\)|unchanged))")
+TARGET, CRATES = os.path.join(ROOT, "target"), os.path.join(ROOT, "crates")
+# What rt says as it begins a crate, and as it has proved it. Of a crate that was built before it says nothing.
+BEGUN, PROVED = re.compile(r"rt: chose --jobs \d+ for (\w+)"), "logic=proved "
 
 
 @contextlib.contextmanager
@@ -43,19 +45,51 @@ def typed(*words):
     return f"'{shlex.join((path if '/' in path else f'./{path}', *words))}'"
 
 
-class Product:
-    """Something that is built by commands: what it is called, the crate, the file that must be there, its sources, all from the
-    repository's folder. target/NAME-built is the mark of the last build: a source that is newer has not been looked at. target/NAME.log
-    has what the commands of that build said."""
+def out_of(crate):
+    """Where rt keeps what it made of a crate."""
+    return os.path.join(CRATES, crate, "out")
 
-    def __init__(self, name, what, crate, file, sources, commands):
-        self.what, self.crate, self.commands = what, crate, commands
-        self.file, self.mark, self.log = (os.path.join(TARGET, part) for part in (file, f"{name}-built", f"{name}.log"))
+
+def below(source):
+    """All files and folders below a source, but for what rt keeps in the crates' out/."""
+    for at, folders, files in os.walk(source):
+        if os.path.dirname(at) == CRATES and "out" in folders:
+            folders.remove("out")
+        yield from (os.path.join(at, name) for name in folders + files)
+
+
+@dataclass(frozen=True)
+class Built:
+    """What rt builds of a crate: its command, which is given in the crate's folder, the file that this leaves in the crate's out/, and
+    the place below target/ that the file is put in."""
+    crate: str
+    command: str
+    made: str
+    place: str
+
+    def put(self):
+        """Puts the file in its place; where rt made none there is none. Who runs or has loaded an older one keeps that."""
+        place = os.path.join(TARGET, self.place)
+        os.makedirs(os.path.dirname(place), exist_ok=True)
+        with contextlib.suppress(FileNotFoundError):
+            os.unlink(place)
+        with contextlib.suppress(FileNotFoundError):
+            shutil.copy(os.path.join(out_of(self.crate), self.made), place)
+
+
+class Product:
+    """Something that is built: what it is called, its sources, what rt builds, and what is then made of that, if anything, a file below
+    target/ and the words of a command. target/NAME-built is the mark of the last build: a source that is newer has not been looked at.
+    target/NAME.log has what the commands of that build said."""
+
+    def __init__(self, name, what, sources, built, file=None, words=None):
+        self.what, self.built, self.words = what, built, words
+        self.file, self.mark, self.log = (os.path.join(TARGET, part) for part in (file or built.place, f"{name}-built", f"{name}.log"))
         self.sources = [os.path.join(ROOT, source) for source in sources]
 
     def is_current(self):
         """Whether the file is there, and no file or folder of its sources is newer than the mark."""
-        inner = [os.path.join(at, name) for source in self.sources for at, folders, files in os.walk(source) for name in folders + files]
+        inner = [path for source in self.sources for path in below(source)]
         with contextlib.suppress(OSError):
             built = os.stat(self.mark).st_mtime_ns
             return os.path.exists(self.file) and all(os.lstat(path).st_mtime_ns <= built for path in self.sources + inner)
@@ -86,27 +120,28 @@ class Product:
             raise Problem(f"{self.what} must be built first, and rt, Rattle's command, is not on the PATH")
         with contextlib.suppress(FileNotFoundError):
             os.unlink(self.mark)
+        for crate in needed(self.built.crate):  # rt makes them where they are missing, which makes the crates' folders newer.
+            with contextlib.suppress(OSError):
+                os.mkdir(out_of(crate))
         with open(self.log, "wb") as log:
             began = os.fstat(log.fileno()).st_mtime_ns
             say(f"{self.what} is proved and built first, which takes some minutes; {near(self.log)} has the log")
-            for words in self.commands:
-                self.follow(words, log, say)
+            self.follow(["rt", self.built.command], os.path.dirname(out_of(self.built.crate)), log, say)
+            self.built.put()
+            if self.words:
+                self.follow(self.words, ROOT, log, say)
         open(self.mark, "wb").close()
         os.utime(self.mark, ns=(began, began))
 
-    def follow(self, words, log, say):
-        """Runs a command of the build; its output goes to the log, and what it says of each crate is said."""
-        crates, done = needed(self.crate), 0
-        with subprocess.Popen(words, cwd=ROOT, stdin=subprocess.DEVNULL, stdout=subprocess.PIPE, stderr=subprocess.STDOUT) as child:
+    def follow(self, words, folder, log, say):
+        """Runs a command of the build in a folder; its output goes to the log, and each crate that it proves is said."""
+        progress = Progress(self.built.crate, say)
+        with subprocess.Popen(words, cwd=folder, stdin=subprocess.DEVNULL, stdout=subprocess.PIPE, stderr=subprocess.STDOUT) as child:
             try:
                 for line in child.stdout:
                     log.write(line)
                     log.flush()
-                    found = DONE.match(line.decode(errors="replace"))
-                    if found and (found[1] or found[2]) in crates:
-                        done += 1
-                        how = f"proved in {found[3]} s" if found[3] else "proved before" if found[2] else "proved, and made a library"
-                        say(f"{done} of {len(crates)}: {found[1] or found[2]} {how}")
+                    progress.hear(line.decode(errors="replace"))
             except BaseException:  # An interrupt, which the command may not have got.
                 child.terminate()
                 raise
@@ -114,10 +149,28 @@ class Product:
             raise Problem(f"{self.what} could not be built: {ended(words, child.returncode)}; {near(self.log)} says why")
 
 
+class Progress:
+    """How many of the crates that a crate needs are proved, as rt's lines tell it: of those that were built before it says nothing, but
+    it builds each after those that it uses."""
+
+    def __init__(self, crate, say):
+        self.needed, self.say, self.begun, self.done = needed(crate), say, None, set()
+
+    def hear(self, line):
+        found = BEGUN.match(line)
+        if found:
+            self.begun = found[1]
+        elif line.startswith(PROVED) and self.begun in self.needed:
+            self.done |= needed(self.begun)
+            self.say(f"{len(self.done)} of {len(self.needed)}: {self.begun} proved")
+            self.begun = None
+
+
 def needed(crate):
     """A crate and all that it uses, by crates.txt."""
     with open(os.path.join(ROOT, "crates.txt")) as file:
-        uses = dict(line.partition(":")[::2] for line in file if not line.startswith("#"))
+        lines = [line.partition(":")[::2] for line in file if not line.startswith("#")]
+    uses = {words.split()[0]: below for words, below in lines if words.strip()}
     found, rest = set(), [crate]
     while rest:
         name = rest.pop()

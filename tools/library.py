@@ -7,14 +7,14 @@ from dataclasses import dataclass
 import binding
 import jobs
 import words
-from building import Product, near, typed
+from building import Built, Product, near, typed
 from files import Problem, Refused, read_file, spoken
 
 # tools/install makes the shared library from the static one, under a folder of target/.
 SHARED = Product(
-    "magpierack", "the library", "relay_c", "magpierack/lib/librelay.so",
-    ["crates", "crates.txt", "include", "tools/install", "tools/library.sh"],
-    [["rt", "staticlib", "relay_c"], ["tools/install", "target/magpierack"]])
+    "magpierack", "the library", ["crates", "crates.txt", "include", "tools/install", "tools/library.sh"],
+    Built("relay_c", "lib", "librelay_c.a", "staticlib/librelay_c.a"),
+    "magpierack/lib/librelay.so", ["tools/install", "target/magpierack"])
 
 
 STACK = 4 << 20

@@ -15,7 +15,7 @@ import subprocess
 import sys
 
 sys.dont_write_bytecode = True
-from building import Product, told, typed  # noqa: E402
+from building import Built, Product, told, typed  # noqa: E402
 from files import Problem, read_file, spoken, take_streams, write_file  # noqa: E402
 from jobs import PROGRAM_BYTES  # noqa: E402
 from texts import is_text  # noqa: E402
@@ -23,7 +23,7 @@ from texts import is_text  # noqa: E402
 import words  # noqa: E402
 
 words.speaker = "relay"
-PROGRAM = Product("relay", "the program", "relay", "bin/relay", ["crates", "crates.txt"], [["rt", "check", "relay"]])
+PROGRAM = Product("relay", "the program", ["crates", "crates.txt"], Built("relay", "run", "relay", "bin/relay"))
 
 
 def ask(program, data):

@@ -267,12 +267,13 @@ def test_garbage_words(folder):
 
 
 CRATES = "base smoothing store job writing rows curves planner running pacing rates radio relay_c".split()
-# What rt says of each, and what is said of that: some are proved, some were before, the last is proved on the way to the library.
-RT_SAYS = [f"rt: {name} proved ({k} s)" if k % 4 else f"rt: {name} proved (unchanged since it was last proved)"
-           for k, name in enumerate(CRATES[:-1], 11)]
-RT_SAYS += ["rt: trial proved (3 s)", "rt: target/staticlib/librelay_c.a has the functions of relay_c that are marked"]
-SAID = [f"{name} proved in {k} s" if k % 4 else f"{name} proved before" for k, name in enumerate(CRATES[:-1], 11)]
-SAID += ["relay_c proved, and made a library"]
+# Those that were proved before, of which rt says nothing; trial is one that the library doesn't need.
+BEFORE = ("smoothing", "rows", "radio")
+RT_SAYS = [line for name in [*CRATES[:-1], "trial", CRATES[-1]] if name not in BEFORE
+           for line in (f"rt: chose --jobs 2 for {name}", f"fn {name}::first: proved", "logic=proved functions=1")]
+SAID = [f"{k} of 13: {name} proved" for k, name in (
+    (1, "base"), (2, "store"), (3, "job"), (4, "writing"), (7, "curves"), (8, "planner"), (9, "running"), (10, "pacing"), (11, "rates"),
+    (13, "relay_c"))]
 STARTED = "the library is proved and built first, which takes some minutes; "
 
 
@@ -286,7 +287,7 @@ class Copy:
         shutil.copytree(ROOT / "tools", self.folder / "tools", ignore=shutil.ignore_patterns("__pycache__"))
         for name in ("magpierack", "crates.txt"):
             shutil.copy(ROOT / name, self.folder / name)
-        for name in ("crates/base/src/a.rt", "include/relay.h"):
+        for name in ("crates/base/src/a.rt", "crates/relay_c/src/lib.rt", "include/relay.h"):
             (self.folder / name).parent.mkdir(parents=True)
             (self.folder / name).write_text("a source\n")
         real = ROOT / "target/magpierack/lib/librelay.so"
@@ -300,7 +301,8 @@ class Copy:
 
     def write_rt(self, does=""):
         said = "".join(f"echo '{line}'\n" for line in RT_SAYS)
-        write_executable(self.bin / "rt", f'#!/bin/sh\nPATH=/usr/bin:/bin\necho "rt $*" >>"{self.log}"\necho a line; {said}{does}\n')
+        head = f'PATH=/usr/bin:/bin\necho "rt $*" >>"{self.log}"\nmkdir -p out && echo "$PWD" >out/librelay_c.a\necho a line'
+        write_executable(self.bin / "rt", f"#!/bin/sh\n{head}; {said}{does}\n")
 
     def words(self):
         return [self.folder / "magpierack", "plan", "--lines", "a.job"]
@@ -316,10 +318,10 @@ class Copy:
         found = run(*self.words(), **{**self.settings(), **other})
         lines = found[2].splitlines()
         due = [f"magpierack: {STARTED}copy/target/magpierack.log has the log"] if built else []
-        due += [f"magpierack: {k} of 13: {line}" for k, line in enumerate(SAID, 1)] if built else []
+        due += [f"magpierack: {line}" for line in SAID] if built else []
         right = found[:2] == (status, self.answer if status == 0 else b"") and lines[:len(due)] == due
         right = right and len(lines) == len(due) + bool(what) and (not what or what in lines[-1])
-        right = right and self.log.read_text().count("rt staticlib relay_c\n") == bool(built)
+        right = right and self.log.read_text().count("rt lib\n") == bool(built)
         settle(f"building, {name}", right and "Traceback" not in found[2], (found, self.log.read_text()))
 
     def age(self):
@@ -334,15 +336,19 @@ def test_building(folder):
     copy = Copy(folder)
     copy.expect("no rt", 2, False, "rt, Rattle's command, is not on the PATH")
     copy.write_rt("exit 3")
-    failed = "the library could not be built: rt staticlib relay_c ended with"
+    failed = "the library could not be built: rt lib ended with"
     copy.expect("rt fails", 2, True, f"{failed} status 3; copy/target/magpierack.log says why")
-    settle("building, the log of a failure", "a line\nrt: base proved (11 s)\n" in (copy.target / "magpierack.log").read_text())
+    settle("building, the log of a failure", f"a line\n{RT_SAYS[0]}\n" in (copy.target / "magpierack.log").read_text())
     copy.write_rt("kill -9 $$")
     copy.expect("rt is killed", 2, True, "ended with signal 9")
     copy.write_rt()
     copy.expect("the first use", 0, True)
+    archive = (copy.target / "staticlib/librelay_c.a").read_text()
+    settle("building, the archive that rt made", archive == f"{copy.folder}/crates/relay_c\n", archive)
     copy.age()
     copy.expect("a later use", 0, False)
+    os.utime(copy.folder / "crates/relay_c/out/librelay_c.a", (3_000, 3_000))
+    copy.expect("what rt keeps is newer", 0, False)
     for name in ("crates.txt", "crates", "crates/base/src/a.rt", "include/relay.h", "tools/install", "tools/library.sh"):
         copy.age()
         os.utime(copy.folder / name, (3_000, 3_000))
@@ -389,10 +395,10 @@ def test_building_places(copy):
         time.sleep(0.01)
     second = run(*copy.words(), **copy.settings())
     out, said = first.communicate(timeout=60)
-    settle("two at once, the first", (first.returncode, out) == (0, copy.answer) and said.count(b"\n") == 14, said)
+    settle("two at once, the first", (first.returncode, out) == (0, copy.answer) and said.count(b"\n") == 1 + len(SAID), said)
     waits = "magpierack: another command builds it; this one waits for that\n"
     settle("two at once, the second", second == (0, copy.answer, waits), second)
-    settle("two at once, one build", copy.log.read_text() == "rt staticlib relay_c\ninstall target/magpierack\n", copy.log.read_text())
+    settle("two at once, one build", copy.log.read_text() == "rt lib\ninstall target/magpierack\n", copy.log.read_text())
 
 
 TESTS = [test_streams, test_closed, test_files, test_modes, test_long, test_stack, test_interrupts, test_garbage_files, test_garbage_words,

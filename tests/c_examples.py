@@ -63,10 +63,11 @@ def test_old_library(folder):
     toolchain = folder / "rt"
     for name, status, due in (("made again", 0, (2, b"", USAGE)), ("not made", 1, (2, b"", ""))):
         os.utime(STATIC_LIBRARY, ns=(0, 0))
-        write_executable(toolchain, f'#!/bin/sh\necho "$@" >"{folder}/asked"\ntouch "{STATIC_LIBRARY}"\nexit {status}\n')
+        does = f'echo "$PWD $*" >"{folder}/asked"\nmkdir -p out && cp "{STATIC_LIBRARY}" out/librelay_c.a\ntouch "{STATIC_LIBRARY}"'
+        write_executable(toolchain, f"#!/bin/sh\n{does}\nexit {status}\n")
         done = run(RUN, env={**os.environ, "PATH": f"{folder}:{os.environ['PATH']}"})
         asked = (folder / "asked").read_text()
-        settle(f"an old library, {name}", done == due and asked == "staticlib relay_c\n", (done, asked))
+        settle(f"an old library, {name}", done == due and asked == f"{ROOT}/crates/relay_c lib\n", (done, asked))
     os.utime(STATIC_LIBRARY, ns=(built, built))
 
 

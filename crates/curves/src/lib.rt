@@ -72,9 +72,9 @@ fn raise_by_leaf(
     out: &mut [u64],
 ) -> usize
     requires holds_sums { HoldsSums sums.now × ((l < most_nodes) × (less ≤ most_nodes * greatest_memory)) }
-    requires less_value { (fresh ≡ true → less ≡ 0) × TakenIn sums.now taken less (begun fresh out.old) }
-    ensures out_after { out.new ≡ raised_by (tree_in job) sums.now l less (begun fresh out.old) }
-    ensures taken_in { TakenIn sums.now result less out.new }
+    requires taken_before { (fresh ≡ true → less ≡ 0) × TakenIn sums.now taken less (begun fresh out.old) }
+    ensures raised { out.new ≡ raised_by (tree_in job) sums.now l less (begun fresh out.old) }
+    ensures taken_after { TakenIn sums.now result less out.new }
 {
     let delay = job.delay[l];
     if fresh {
@@ -121,9 +121,9 @@ fn raise_by_leaves(
     out: &mut [u64],
 ) -> usize
     requires holds_sums { HoldsSums sums.now × ((less ≤ most_nodes * greatest_memory) × (fresh ≡ true → (less ≡ 0) × (0 < set))) }
-    requires taken_in { TakenIn sums.now taken less (begun fresh out.old) }
-    ensures out_after { out.new ≡ raised_by_all (tree_in job) sums.now set less (begun fresh out.old) }
-    ensures taken_in_2 { TakenIn sums.now result less out.new }
+    requires taken_before { TakenIn sums.now taken less (begun fresh out.old) }
+    ensures raised { out.new ≡ raised_by_all (tree_in job) sums.now set less (begun fresh out.old) }
+    ensures taken_after { TakenIn sums.now result less out.new }
 {
     if set == 0 {
         return taken;
@@ -328,7 +328,7 @@ pub fn lower_near(
 ) -> usize
     requires { WithSums job sums.now × (Link job.nodes v
         × (Kept (tree_in job) (sums_in sums.now) c kept.old × (length kept.old ≡ length out.old))) }
-    ensures out_after { out.new ≡ tab (lower_curve (tree_in job) (sums_in sums.now) v) (length out.old) }
+    ensures lower { out.new ≡ tab (lower_curve (tree_in job) (sums_in sums.now) v) (length out.old) }
     ensures kept { Kept (tree_in job) (sums_in sums.now) result kept.new }
 {
     let u = job.parent[v];

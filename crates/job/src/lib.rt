@@ -39,8 +39,8 @@ impl Frame {
     pub const WIDTH: usize = 4;
 
     pub fn new(size: u64) -> FrameMade
-        ensures value { result ≡ new_frame size }
-        ensures result_value { frame_number result ≡ frame_refusal size }
+        ensures made { result ≡ new_frame size }
+        ensures number { frame_number result ≡ frame_refusal size }
     {
         if Frame::GREATEST < size {
             FrameMade::TooLarge
@@ -92,8 +92,8 @@ impl Node {
 
     // Node `number` of a tree, where it is known whether that is a leaf.
     pub fn new(number: usize, leaf: bool, node: Node) -> NodeMade
-        ensures value { result ≡ new_node number leaf node }
-        ensures result_value { node_number result ≡ node_refusal number leaf node }
+        ensures made { result ≡ new_node number leaf node }
+        ensures number { node_number result ≡ node_refusal number leaf node }
     {
         if number <= node.parent {
             return NodeMade::Refused(Node::BAD_PARENT);
@@ -609,7 +609,7 @@ pub struct Limits {
 
 impl Limits {
     pub fn all() -> Limits
-        ensures value { result ≡ limits }
+        ensures bounds { result ≡ limits }
         ensures fewest_nodes { Job.FEWEST_NODES ≡ limit.fewest_nodes }
         ensures most_nodes { Job.MOST_NODES ≡ limit.most_nodes }
         ensures fewest_frames { Job.FEWEST_FRAMES ≡ limit.fewest_frames }

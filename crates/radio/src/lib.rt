@@ -33,7 +33,7 @@ fn carried_by(r: u64, k: u64, total: u64) -> u64
 // all that is carried by the last of these slots is no greater excess over what is played by the first, none of them has a greater one.
 fn excess_for_slots(sums: &[u64], r: u64, d: u64, m: usize, to: usize, excess: u64) -> u64
     requires film_sums { (FilmSums sums.now × ((r ≤ greatest_rate) × (d ≤ longest_delay))) × ((m < to) × (to ≤ length sums.now)) }
-    requires excess_value { excess ≡ excess_before sums.now r d m }
+    requires excess { excess ≡ excess_before sums.now r d m }
     ensures { result ≡ excess_before sums.now r d to }
 {
     let total = sums[sums.len() - 1];

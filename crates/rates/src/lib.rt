@@ -104,8 +104,8 @@ fn handed_on(job: Job, needs: &[u64; Job::MOST_NODES], i: usize, asked: u64) -> 
 // All memories from the needs, and their total: from the root down, as what a node is asked for hangs on what its parent hands on.
 fn fill(job: Job, needs: &[u64; Job::MOST_NODES], memories: &mut [u64]) -> u64
     requires { TreeWithin (tree_in job) × (NeedsWithin (tree_in job) needs.now × (length memories.old ≡ job.nodes - 1)) }
-    ensures memories_after { memories.new ≡ tab (λ i. memory_by (tree_in job) needs.now (suc i)) (job.nodes - 1) }
-    ensures value { result ≡ total (tree_in job) (memory_by (tree_in job) needs.now) }
+    ensures memories { memories.new ≡ tab (λ i. memory_by (tree_in job) needs.now (suc i)) (job.nodes - 1) }
+    ensures total { result ≡ total (tree_in job) (memory_by (tree_in job) needs.now) }
 {
     let links = job.nodes - 1;
     let parent = job.parent;

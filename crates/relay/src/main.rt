@@ -58,8 +58,8 @@ fn spell(n: u64, out: &mut [u8])
 // n in decimal at the start of `out`; it gives how many digits there are.
 fn decimal(n: u64, out: &mut [u8]) -> usize
     requires { most_digits ≤ length out.old }
-    ensures value { (result ≡ length (digits n)) × (result ≤ most_digits) }
-    ensures out_after { out.new ≡ digits n ++ drop result out.old }
+    ensures count { (result ≡ length (digits n)) × (result ≤ most_digits) }
+    ensures spelled { out.new ≡ digits n ++ drop result out.old }
 {
     let k = places(n);
     spell(n, &mut out[0..k]);
@@ -146,7 +146,7 @@ fn add_nodes(bytes: &[u8], plan: &[u64], peaks: &[u64], out: &mut [u8], at: usiz
     ensures adds { Adds out.old at
         (rows_of (node_line bytes.now plan.now peaks.now) (length peaks.now))
         out.new result }
-    ensures upper_bound { result ≤ at + length peaks.now * node_room bytes.now }
+    ensures ends { result ≤ at + length peaks.now * node_room bytes.now }
 {
     let mut end = at;
     let mut i = 0;

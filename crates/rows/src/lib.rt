@@ -95,7 +95,7 @@ impl Search {
 // A pass over every `stride`-th slot of two rows at the peak p.
 fn pass(lower: &[u64], upper: &[u64], p: u64, stride: usize) -> Search
     requires searchable { Searchable lower.now upper.now × (p ≤ greatest_total) }
-    requires stride_nonzero { (0 < stride) × (stride ≤ longest_stride) }
+    requires stride_in { (0 < stride) × (stride ≤ longest_stride) }
     ensures { search_in result ≡ pass_over stride p lower.now upper.now }
 {
     let rise = p * (stride as u64);
@@ -119,9 +119,9 @@ fn pass(lower: &[u64], upper: &[u64], p: u64, stride: usize) -> Search
 // above the least it never passes the least, and over every slot it ends there.
 fn search_by(lower: &[u64], upper: &[u64], start: u64, stride: usize) -> u64
     requires searchable { Searchable lower.now upper.now × (start ≤ least_peak_of lower.now upper.now) }
-    requires stride_nonzero { (0 < stride) × (stride ≤ longest_stride) }
-    ensures lower_bound { (start ≤ result) × (result ≤ least_peak_of lower.now upper.now) }
-    ensures value { stride ≡ 1 → result ≡ least_peak_of lower.now upper.now }
+    requires stride_in { (0 < stride) × (stride ≤ longest_stride) }
+    ensures between { (start ≤ result) × (result ≤ least_peak_of lower.now upper.now) }
+    ensures exact { stride ≡ 1 → result ≡ least_peak_of lower.now upper.now }
 {
     let mut p = start;
     let mut s = pass(lower, upper, p, stride);

@@ -124,9 +124,9 @@ fn first_breach(
     column: &[u64; Job::MOST_NODES],
 ) -> usize
     requires { TreeWithin (tree_in job) × HoldsSums sums.now }
-    ensures i_value { result ≡ 0 → (i : ℕ) → (0 < i) × (i < job.nodes)
+    ensures none { result ≡ 0 → (i : ℕ) → (0 < i) × (i < job.nodes)
         → work.breaks_at job sums.now k carried.now column.now i ≡ false }
-    ensures upper_bound { 0 < result → (result < job.nodes)
+    ensures first { 0 < result → (result < job.nodes)
         × (work.breaks_at job sums.now k carried.now column.now result ≡ true) }
 {
     let mut i = 1;

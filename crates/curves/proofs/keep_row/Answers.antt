@@ -22,7 +22,7 @@ raise_by_leaves-requires c =
     (kept.1 (omega arith)) less.ensures in
     record {
       holds_sums = (c.requires.0.film, (omega arith, λ f. absurd (not_both f refl)));
-      taken_in = none-taken _ c.requires.0.film 0 _ less.new.out refl small;
+      taken_before = none-taken _ c.requires.0.film 0 _ less.new.out refl small;
     }
 
 pub returns : goal.returns
@@ -31,7 +31,7 @@ returns c =
     let parent : get_or a.job.parent a.u 0 ≡ a.c = omega arith in
     let row = rw (← parent) at (c.requires.1.1.1 (omega arith)) in
     let less = rw (← parent) at c.lessen.ensures in
-    c.raise_by_leaves.ensures.out_after
+    c.raise_by_leaves.ensures.raised
     ∙ rw less
     (near_own (tree_in a.job) c.requires.0.tree a.sums.now a.u c.requires.1.0 (omega arith) (length a.kept.now)
     a.kept.now row

@@ -38,7 +38,7 @@ raise_by_leaves-requires c =
           λ f. (refl, some_in _ c.requires.0.tree c.args.v c.requires.1.0.1 l.result l.ensures),
         ),
       );
-      taken_in = fresh_taken _ c.requires.0.film c.args.out.now;
+      taken_before = fresh_taken _ c.requires.0.film c.args.out.now;
     }
 
 pub offset_bounds-job-u : goal.offset_bounds-job-u
@@ -60,8 +60,8 @@ raise_by-requires c =
     let own = c.raise_by_leaves.ensures in
     let inner = c.if-u-eq0.false in
     let small = c.requires.0.tree.memories u (link_is _ u (omega (arith, inner)) (omega (arith, lower (goal.at.raise_by-requires c).Start, c.requires.1.0))) in (
-      ap length row ∙ length-tab _ _ ∙ c.requires.1.1.1 ∙ sym (ap length own.out_after ∙ all_length _ _ _ _ _ ∙ length-tab _ _),
-      (omega (arith, small), λ k q. (own.taken_in_2 k q).1),
+      ap length row ∙ length-tab _ _ ∙ c.requires.1.1.1 ∙ sym (ap length own.raised ∙ all_length _ _ _ _ _ ∙ length-tab _ _),
+      (omega (arith, small), λ k q. (own.taken_after k q).1),
     )
 
 pub returns : goal.returns
@@ -76,7 +76,7 @@ returns c =
     ))
     (length a.out.now) _ (rw c.requires.1.1.1 at row) _
     c.leaves_at.ensures in record {
-      out_after = c.raise_by.ensures
-          ∙ rw c.raise_by_leaves.ensures.out_after near;
+      lower = c.raise_by.ensures
+          ∙ rw c.raise_by_leaves.ensures.raised near;
       kept = (omega (arith, lower (goal.at.returns c).Start, c.requires.1.0), λ ne. rw long row);
     }

@@ -34,19 +34,19 @@ up c =
 kept : (c : At-loop-a)
     → length c.raise_by_leaves-taken.new.out ≡ length
     c.args.out.now
-kept c = ap length c.raise_by_leaves-taken.ensures.out_after ∙ all_length _ _ _ _ _ ∙ length-tab _ _
+kept c = ap length c.raise_by_leaves-taken.ensures.raised ∙ all_length _ _ _ _ _ ∙ length-tab _ _
 
 pub raise_by_leaves-taken-requires : goal.raise_by_leaves-taken-requires
 raise_by_leaves-taken-requires c =
     let l = c.leaves_at-seen in record {
       holds_sums = (c.requires.0.film, (omega arith, λ f. (refl, some_in _ c.requires.0.tree c.args.i c.requires.1.1 l.result l.ensures)));
-      taken_in = fresh_taken _ c.requires.0.film c.args.out.now;
+      taken_before = fresh_taken _ c.requires.0.film c.args.out.now;
     }
 
 pub loop-a-init : goal.loop-a-init
 loop-a-init c =
     let n = c.raise_by_leaves-taken.ensures in
-    lower-start _ _ c.requires.0.tree _ c.requires.1 _ _ _ _ c.leaves_at-seen.ensures n.out_after n.taken_in_2
+    lower-start _ _ c.requires.0.tree _ c.requires.1 _ _ _ _ c.leaves_at-seen.ensures n.raised n.taken_after
 
 pub offset_bounds-parent-a : goal.offset_bounds-parent-a
 offset_bounds-parent-a c = omega (arith, near c)
@@ -88,7 +88,7 @@ raise_by_leaves-taken-requires-in-loop-a c =
           λ f. absurd (not_both f refl),
         ),
       );
-      taken_in = lower-taken _ _ c.requires.0.tree _ c.requires.1 _ _ _ _ _ _ l.invariant (omega arith);
+      taken_before = lower-taken _ _ c.requires.0.tree _ c.requires.1 _ _ _ _ _ _ l.invariant (omega arith);
     }
 
 pub loop-a-smaller : goal.loop-a-smaller
@@ -100,7 +100,7 @@ loop-a-preserved c =
     lower_next _ _ c.requires.0.tree _ c.requires.1 _ _ _ _ _ _ c.loop-a.invariant
     (omega arith) _ _ c.leaves_at-leaves.ensures
     c.outside-new.ensures
-    _ _ _ refl n.out_after n.taken_in_2
+    _ _ _ refl n.raised n.taken_after
 
 pub shape_of-out : goal.shape_of-out
 shape_of-out c = c.loop-a.invariant.long ∙ kept (goal.at.shape_of-out c).At-loop-a

@@ -17,19 +17,19 @@ returns-then-fresh c =
     let a = c.args in
     let fresh = c.if-fresh.true in
     let row = c.shift.ensures
-    ∙ raised_fresh (tree_in a.job) a.sums.now a.less a.fresh fresh (c.requires.less_value.0 fresh) a.l a.out.now in
+    ∙ raised_fresh (tree_in a.job) a.sums.now a.less a.fresh fresh (c.requires.taken_before.0 fresh) a.l a.out.now in
     record {
-      out_after = row;
-      taken_in = rw row (raised_taken (tree_in a.job) a.sums.now a.less c.requires.holds_sums.0 a.l _ (λ k q. (c.requires.less_value.1 k q).1));
+      raised = row;
+      taken_after = rw row (raised_taken (tree_in a.job) a.sums.now a.less c.requires.holds_sums.0 a.l _ (λ k q. (c.requires.taken_before.1 k q).1));
     }
 
 pub returns-then-taken-delay : goal.returns-then-taken-delay
 returns-then-taken-delay c =
     let a = c.args in
     let same = begun-same a.fresh a.out.now c.if-fresh.false in
-    let has = rw same at c.requires.less_value.1 in record {
-      out_after = rw same (raised_none a.sums.now c.requires.holds_sums.0 (tree_in a.job) a.l a.less a.taken a.out.now (omega arith) has);
-      taken_in = has;
+    let has = rw same at c.requires.taken_before.1 in record {
+      raised = rw same (raised_none a.sums.now c.requires.holds_sums.0 (tree_in a.job) a.l a.less a.taken a.out.now (omega arith) has);
+      taken_after = has;
     }
 
 pub raise_by-requires : goal.raise_by-requires
@@ -39,7 +39,7 @@ raise_by-requires c =
     let n = c.min_usize-count in
     let s = c.min_usize-start in
     let same = begun-same c.args.fresh out c.if-fresh.false in
-    let small : InRange out = λ k q. (rw same at c.requires.less_value.1 k q).1 in
+    let small : InRange out = λ k q. (rw same at c.requires.taken_before.1 k q).1 in
     let long = length_part s.result (s.result + n.result) out (omega arith) (omega (arith, s.ensures, n.ensures)) in (
       length_part 0 n.result sums (omega arith) (omega (arith, n.ensures)) ∙ omega arith ∙ sym long,
       (
@@ -66,7 +66,7 @@ returns c =
     c.min_usize-count.ensures (omega arith) refl
     (λ j h. part_get a.sums.now 0 (n - 0) j (omega arith) ∙ ap (λ (z : ℕ). get_or a.sums.now z 0) (omega arith))
     c.raise_by.ensures (rw value at c.raise_to.ensures) in record {
-      out_after = rw same row;
-      taken_in = rw row (raised_taken (tree_in a.job) a.sums.now a.less c.requires.holds_sums.0 a.l a.out.now
-          (λ k q. (rw same at c.requires.less_value.1 k q).1));
+      raised = rw same row;
+      taken_after = rw row (raised_taken (tree_in a.job) a.sums.now a.less c.requires.holds_sums.0 a.l a.out.now
+          (λ k q. (rw same at c.requires.taken_before.1 k q).1));
     }

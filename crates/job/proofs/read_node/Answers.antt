@@ -27,5 +27,5 @@ pub returns : goal.returns
 unfolding parent_at delay_at memory_at rate_at
 returns c =
     let p = c.record_place-at.ensures in
-    c.new.ensures.value
+    c.new.ensures.made
     ∙ rw (c.number_at-parent.ensures.0, c.number_at-delay.ensures.0, c.number_at-memory.ensures.0, c.number_at-rate.ensures.0, p) refl

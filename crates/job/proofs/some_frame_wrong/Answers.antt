@@ -38,7 +38,7 @@ pub returns-in-TooLarge : goal.returns-in-TooLarge
 returns-in-TooLarge c =
     let l = c.loop-m in
     let s = c.args.s.now in
-    let e : frame_wrong (frame_at s l.m) ≡ true = rw (size_is (goal.at.returns-in-TooLarge c).After-number4_at) at (frame_large c.number4_at.result (sym c.in-TooLarge.ensures.value)) in
+    let e : frame_wrong (frame_at s l.m) ≡ true = rw (size_is (goal.at.returns-in-TooLarge c).After-number4_at) at (frame_large c.number4_at.result (sym c.in-TooLarge.ensures.made)) in
     sym (some-passes (λ x. frame_wrong (frame_at s x)) (frame_count s) l.m (omega (arith, c.requires.1.1)) e)
 
 pub overflow_add-at : goal.overflow_add-at
@@ -50,7 +50,7 @@ unfolding some
 loop-m-preserved c =
     let l = c.loop-m in
     let s = c.args.s.now in
-    let e : frame_wrong (frame_at s l.m) ≡ false = rw (size_is (goal.at.loop-m-preserved c).After-number4_at) at (frame-fits c.number4_at.result _ (sym c.in-Made.ensures.value)) in
+    let e : frame_wrong (frame_at s l.m) ≡ false = rw (size_is (goal.at.loop-m-preserved c).After-number4_at) at (frame-fits c.number4_at.result _ (sym c.in-Made.ensures.made)) in
     (omega arith, (omega (arith, l.invariant.1.0), rw (add-one, l.invariant.1.1, e) refl))
 
 pub returns : goal.returns

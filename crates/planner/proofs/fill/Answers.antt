@@ -86,7 +86,7 @@ slice_bounds-fill_link-end c = omega (arith, row_in (goal.at.slice_bounds-fill_l
 pub fill_link-requires : goal.fill_link-requires
 fill_link-requires c =
     let l = c.loop-i in
-    rw (c.lower_near-near.ensures.out_after, l.invariant.0, part_is (goal.at.fill_link-requires c).In-loop-i)
+    rw (c.lower_near-near.ensures.lower, l.invariant.0, part_is (goal.at.fill_link-requires c).In-loop-i)
     (curves_searchable c.args.job c.args.sums.now c.args.lowers.now c.args.kept.now c.requires.0 (l.i + 1) (omega arith, omega arith))
 
 pub bounds-peaks-i : goal.bounds-peaks-i
@@ -105,10 +105,10 @@ loop-i-preserved c =
     let link : Link a.job.nodes (l.i + 1) = (omega arith, omega (arith, c.loop-i-test.true)) in
     let back : l.i + 1 - 1 ≡ l.i = omega arith in
     let first : f.result ≡ link_peak P (l.i + 1) =
-    f.ensures.least ∙ rw (near.ensures.out_after, l.invariant.0, part_is (goal.at.loop-i-preserved c).In-loop-i) (peak_here a.job a.sums.now a.lowers.now a.kept.now c.requires.0 (l.i + 1) link) in
+    f.ensures.least ∙ rw (near.ensures.lower, l.invariant.0, part_is (goal.at.loop-i-preserved c).In-loop-i) (peak_here a.job a.sums.now a.lowers.now a.kept.now c.requires.0 (l.i + 1) link) in
     let row : f.new.row ≡ lazy_row_of P w l.i =
     f.ensures.filled
-    ∙ rw (near.ensures.out_after, l.invariant.0) (rw back at (lazy_here a.job a.sums.now a.lowers.now a.kept.now c.requires.0 (l.i + 1) link f.result first)) in
+    ∙ rw (near.ensures.lower, l.invariant.0) (rw back at (lazy_here a.job a.sums.now a.lowers.now a.kept.now c.requires.0 (l.i + 1) link f.result first)) in
     let peak : f.result ≡ link_peak P (suc l.i) = first ∙ rw add-one refl in (
       near.auto.out ∙ l.invariant.0,
       (

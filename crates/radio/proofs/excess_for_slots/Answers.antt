@@ -5,10 +5,10 @@ use Rattle.radio.proofs.excess_for_slots.Goals as goal
 
 pub returns-then-minus-excess : goal.returns-then-minus-excess
 returns-then-minus-excess c =
-    c.requires.excess_value
+    c.requires.excess
     ∙ excess_stretch c.args.sums.now c.requires.film_sums.0.0.holds c.args.r c.args.d c.args.m c.args.to
     c.requires.film_sums.1.0 c.requires.film_sums.1.1
-    (omega (arith, c.if-minus-excess.true, c.minus.ensures, c.carried_by-most.ensures, c.requires.excess_value))
+    (omega (arith, c.if-minus-excess.true, c.minus.ensures, c.carried_by-most.ensures, c.requires.excess))
 
 pub loop-m-preserved : goal.loop-m-preserved
 loop-m-preserved c =

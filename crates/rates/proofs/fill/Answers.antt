@@ -127,6 +127,6 @@ unfolding total
 returns c =
     let ends : suc c.loop-i.i ≡ c.args.job.nodes =
     omega (arith, c.loop-i-test.false, c.loop-i.invariant.0.0, c.requires.1.1, c.requires.0.nodes_from) in record {
-      memories_after = rw c.requires.1.1 at (filled-done _ c.loop-i.i _ _ c.loop-i.invariant.0 (omega (arith, ends, c.requires.1.1)));
-      value = rw ends at c.loop-i.invariant.1.1.0;
+      memories = rw c.requires.1.1 at (filled-done _ c.loop-i.i _ _ c.loop-i.invariant.0 (omega (arith, ends, c.requires.1.1)));
+      total = rw ends at c.loop-i.invariant.1.1.0;
     }

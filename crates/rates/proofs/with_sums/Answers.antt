@@ -56,8 +56,8 @@ returns c =
     let sums = c.args.sums.now in
     let M = c.args.job.frames in
     let are = needs_are (goal.at.returns c).After-needs-needs in
-    let filled = rw are at c.fill-all.ensures.memories_after in
-    let all = rw are at c.fill-all.ensures.value in (
+    let filled = rw are at c.fill-all.ensures.memories in
+    let all = rw are at c.fill-all.ensures.total in (
       omega (arith, c.if-w.false),
       (
         delay_is (goal.at.returns c).After-start_delay-w,

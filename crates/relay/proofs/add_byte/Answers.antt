@@ -1,4 +1,3 @@
-use borrow.Author.Rules.{rules}
 use Rattle.relay.proofs.TextLaws.{adds_store}
 use Rattle.relay.proofs.add_byte.Goals as goal
 

@@ -1,5 +1,4 @@
 use native.Mathlib.Omega.{arith}
-use borrow.Author.Rules.{rules}
 use Rattle.relay.proofs.TextLaws.{adds_more, adds_as, given-text}
 use Rattle.relay.proofs.add_given.Goals as goal
 

@@ -1,6 +1,5 @@
 use mathlib.Core.Path.{sym}
 use native.Mathlib.Omega.{arith}
-use borrow.Author.Rules.{rules}
 use Rattle.relay.proofs.TextLaws.{adds_more, adds_as, spaced_one}
 use Rattle.relay.proofs.add_next.Goals as goal
 

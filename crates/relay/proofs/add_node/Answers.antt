@@ -1,5 +1,4 @@
 use native.Mathlib.Omega.{arith}
-use borrow.Author.Rules.{rules}
 use Rattle.relay.proofs.TextLaws.{adds_more, adds_as, node_text}
 use Rattle.relay.proofs.add_node.Goals as goal
 

@@ -1,8 +1,7 @@
 use mathlib.Core.Path.{◌≡◌, refl, ◌∙◌}
-use Prim.Native.Nat.{◌+◌, ◌-◌, ◌*◌, ◌≤◌}
+use Prim.Native.Nat.{◌+◌, ◌*◌, ◌≤◌}
 use native.Mathlib.Omega.{arith}
 use lib.ListN.{length}
-use borrow.Author.Rules.{rules}
 use Rattle.base.specs.Table.{rows_of}
 use Rattle.planner.proofs.PlaceLaws.{row_most}
 use Rattle.relay.proofs.TextLaws.{adds_none, adds_more, adds_as, line-fits, line_next, lines_more}
@@ -49,5 +48,5 @@ returns c =
     let all : l.i ≡ length c.args.peaks.now = omega arith in
     record {
       adds = rw all at l.invariant.1.1.0;
-      upper_bound = rw all at l.invariant.1.1.1;
+      ends = rw all at l.invariant.1.1.1;
     }

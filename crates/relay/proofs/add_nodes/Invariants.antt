@@ -1,12 +1,8 @@
-use mathlib.Core.Path.{◌≡◌, refl, ◌∙◌}
+use mathlib.Core.Path.{◌≡◌}
 use Prim.Native.Nat.{◌+◌, ◌-◌, ◌*◌, ◌≤◌}
-use native.Mathlib.Omega.{arith}
 use lib.ListN.{length}
-use borrow.Author.Rules.{rules}
 use Rattle.base.specs.Table.{rows_of}
-use Rattle.planner.proofs.PlaceLaws.{row_most}
-use Rattle.relay.proofs.TextLaws.{adds_none, adds_more, adds_as, line-fits, line_next, lines_more}
-use Rattle.relay.specs.Room.{node_room, Adds, word_width}
+use Rattle.relay.specs.Room.{node_room, Adds}
 use Rattle.relay.specs.Text.{node_line}
 use Rattle.relay.proofs.add_nodes.Given as goal
 

@@ -1,9 +1,8 @@
 use native.Mathlib.Omega.{arith}
-use borrow.Author.Rules.{rules}
 use Rattle.relay.proofs.TextLaws.{adds_part}
 use Rattle.relay.proofs.add_number.Goals as goal
 
 pub returns : goal.returns
 returns c =
     let d = c.decimal-k in
-    (adds_part c.args.out.now _ _ _ c.args.at d.result _ (omega (arith, c.requires)) d.ensures.value.0 d.ensures.out_after, omega (arith, d.ensures.value.1))
+    (adds_part c.args.out.now _ _ _ c.args.at d.result _ (omega (arith, c.requires)) d.ensures.count.0 d.ensures.spelled, omega (arith, d.ensures.count.1))

@@ -1,11 +1,8 @@
 use mathlib.Core.Path.{◌≡◌, refl, ◌∙◌, sym}
-use Prim.Native.Nat.{◌+◌, ◌-◌, ◌*◌, ◌≤◌}
 use native.Mathlib.Omega.{arith}
 use lib.Seq.{take_all}
-use lib.ListN.{length, take}
-use borrow.Author.Rules.{rules}
+use lib.ListN.{take}
 use Rattle.relay.proofs.TextLaws.{adds_none, adds_more, adds_as, spaced_more}
-use Rattle.relay.specs.Room.{word_width, Adds}
 use Rattle.relay.specs.Text.{spaced}
 use Rattle.relay.proofs.add_row.Goals as goal
 

@@ -1,10 +1,6 @@
-use mathlib.Core.Path.{◌≡◌, refl, ◌∙◌, sym}
+use mathlib.Core.Path.{◌≡◌}
 use Prim.Native.Nat.{◌+◌, ◌-◌, ◌*◌, ◌≤◌}
-use native.Mathlib.Omega.{arith}
-use lib.Seq.{take_all}
 use lib.ListN.{length, take}
-use borrow.Author.Rules.{rules}
-use Rattle.relay.proofs.TextLaws.{adds_none, adds_more, adds_as, spaced_more}
 use Rattle.relay.specs.Room.{word_width, Adds}
 use Rattle.relay.specs.Text.{spaced}
 use Rattle.relay.proofs.add_row.Given as goal

@@ -1,5 +1,4 @@
 use native.Mathlib.Omega.{arith}
-use borrow.Author.Rules.{rules}
 use Rattle.relay.proofs.PrintedLaws.{room-enough, both_added}
 use Rattle.relay.proofs.both.Goals as goal
 

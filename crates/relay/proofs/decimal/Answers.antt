@@ -1,5 +1,4 @@
 use native.Mathlib.Omega.{arith}
-use borrow.Author.Rules.{rules}
 use Rattle.relay.proofs.DecimalLaws.{digits-put}
 use Rattle.relay.proofs.decimal.Goals as goal
 
@@ -7,6 +6,6 @@ pub returns : goal.returns
 returns c =
     let p = c.places-k in
     record {
-      value = p.ensures;
-      out_after = digits-put c.args.n p.result c.args.out.now _ p.ensures.0 (omega (arith, p.ensures.1, c.requires)) c.spell.ensures;
+      count = p.ensures;
+      spelled = digits-put c.args.n p.result c.args.out.now _ p.ensures.0 (omega (arith, p.ensures.1, c.requires)) c.spell.ensures;
     }

@@ -1,8 +1,6 @@
 use mathlib.Core.Path.{◌∙◌}
 use native.Mathlib.Omega.{arith}
 use lib.ListN.{length}
-use borrow.Author.Rules.{rules}
-use Rattle.planner.specs.declared.Answer.TheVariants.{Refused, Planned}
 use Rattle.relay.proofs.PrintedLaws.{nodes_fit, nodes_end}
 use Rattle.relay.proofs.TextLaws.{adds_more}
 use Rattle.relay.specs.Room.{node_room}
@@ -53,5 +51,5 @@ returns-in-Planned c =
         answers = c.in-Planned.ensures;
         printed = (adds_more c.args.out.now _ _ 0 _ _ _ _ a.ensures.0 n.ensures.adds).1;
       },
-      nodes_end _ _ _ _ _ a.ensures.1 (q.auto.peaks ∙ c.requires.1.0) n.ensures.upper_bound,
+      nodes_end _ _ _ _ _ a.ensures.1 (q.auto.peaks ∙ c.requires.1.0) n.ensures.ends,
     )

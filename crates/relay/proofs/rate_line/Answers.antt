@@ -1,7 +1,5 @@
 use mathlib.Core.Path.{refl}
 use native.Mathlib.Omega.{arith}
-use borrow.Author.Rules.{rules}
-use Rattle.rates.specs.declared.Sizing.TheVariants.{Refused, Sized}
 use Rattle.relay.specs.Text.{rate_text}
 use Rattle.relay.proofs.rate_line.Goals as goal
 

@@ -1,12 +1,8 @@
-use mathlib.Core.Path.{◌≡◌, refl, ◌∙◌}
-use mathlib.Core.List.{◌++◌, append-nil}
-use Prim.Native.Nat.{◌≤◌, ◌-◌, ◌%◌}
-use native.Mathlib.Omega.{arith}
-use lib.Seq.{drop-length}
-use lib.ListN.{length, drop, length-set}
-use borrow.Author.Rules.{rules}
-use Rattle.relay.specs.Decimal.{last_digits, digit}
-use Rattle.relay.proofs.DecimalLaws.{last_stored}
+use mathlib.Core.Path.{◌≡◌}
+use mathlib.Core.List.{◌++◌}
+use Prim.Native.Nat.{◌≤◌}
+use lib.ListN.{length, drop}
+use Rattle.relay.specs.Decimal.{last_digits}
 use Rattle.relay.proofs.spell.Given as goal
 
 abbrev pub invariant-loop-i : goal.invariant-loop-i

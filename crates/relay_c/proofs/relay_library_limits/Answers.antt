@@ -3,4 +3,4 @@ use Rattle.relay_c.specs.Numbers.{limit_numbers}
 use Rattle.relay_c.proofs.relay_library_limits.Goals as goal
 
 pub returns : goal.returns
-returns c = ap limit_numbers c.all-all.ensures.value
+returns c = ap limit_numbers c.all-all.ensures.bounds

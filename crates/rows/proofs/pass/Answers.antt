@@ -10,7 +10,7 @@ use native.Mathlib.Omega.{arith}
 use Rattle.rows.proofs.pass.Goals as goal
 
 pub overflow_mul-rise : goal.overflow_mul-rise
-overflow_mul-rise c = omega (arith, mul-le-mul c.requires.searchable.1 c.requires.stride_nonzero.1)
+overflow_mul-rise c = omega (arith, mul-le-mul c.requires.searchable.1 c.requires.stride_in.1)
 
 pub loop-next-init : goal.loop-next-init
 loop-next-init c = (
@@ -26,9 +26,9 @@ look-s-requires c =
     let l = c.loop-next in
     let k = l.invariant.0 in
     let gap : l.s.gap ≤ k = rw (← ap (λ (s : newton.Search). s.gap) l.invariant.4) at (gap_within (newton.every c.args.stride (row_in c.args.lower.now)) (newton.every c.args.stride (row_in c.args.upper.now)) (c.args.p * c.args.stride) k) in
-    let within : k * 1 ≤ l.at = rw l.invariant.1 (mul-le-mul_left k c.requires.stride_nonzero.0) in (
+    let within : k * 1 ≤ l.at = rw l.invariant.1 (mul-le-mul_left k c.requires.stride_in.0) in (
       omega (arith, c.requires.searchable.0.slots_to),
-      (c.requires.searchable.0.upper_to l.at (omega (arith, c.requires.searchable.0.same_slots)), mul-le-mul c.requires.searchable.1 c.requires.stride_nonzero.1),
+      (c.requires.searchable.0.upper_to l.at (omega (arith, c.requires.searchable.0.same_slots)), mul-le-mul c.requires.searchable.1 c.requires.stride_in.1),
     )
 
 pub loop-next-preserved : goal.loop-next-preserved

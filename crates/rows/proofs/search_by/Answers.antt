@@ -13,7 +13,7 @@ pub pass-s-requires : goal.pass-s-requires
 pass-s-requires c =
     record {
       searchable = (c.requires.searchable.0, omega (arith, c.requires.searchable.1, least_range c.args.lower.now c.args.upper.now c.requires.searchable.0));
-      stride_nonzero = c.requires.stride_nonzero;
+      stride_in = c.requires.stride_in;
     }
 
 pub loop-s-init : goal.loop-s-init
@@ -25,7 +25,7 @@ in_range : (c : After-struct_known-in-loop-s-1) → let s = c.loop-s.s in
     (s.excess ≤ greatest_total) × ((0 < s.span * stride) × (s.span * stride ≤ greatest_total))
 in_range c =
     let l = c.loop-s in
-    step_range c.args.lower.now c.args.upper.now c.requires.searchable.0 l.p c.args.stride (search_in l.s) c.requires.stride_nonzero.0 l.invariant.2 (omega arith)
+    step_range c.args.lower.now c.args.upper.now c.requires.searchable.0 l.p c.args.stride (search_in l.s) c.requires.stride_in.0 l.invariant.2 (omega arith)
 
 pub overflow_mul-s : goal.overflow_mul-s
 overflow_mul-s c = omega (arith, in_range c)
@@ -39,7 +39,7 @@ next : (c : After-ceil_div-p) → let l = c.loop-s in
     (l.p < p) × (p ≤ least_peak (length a.lower.now - 1) (row_in a.lower.now) (row_in a.upper.now))
 next c =
     let l = c.loop-s in
-    rw c.ceil_div-p.ensures (step-peak c.args.lower.now c.args.upper.now c.requires.searchable.0 l.p c.args.stride (search_in l.s) c.requires.stride_nonzero.0 l.invariant.2 (omega arith))
+    rw c.ceil_div-p.ensures (step-peak c.args.lower.now c.args.upper.now c.requires.searchable.0 l.p c.args.stride (search_in l.s) c.requires.stride_in.0 l.invariant.2 (omega arith))
 
 next_range : (c : After-ceil_div-p) → c.loop-s.p + c.ceil_div-p.result ≤ greatest_total
 next_range c =
@@ -52,7 +52,7 @@ pub pass-s-requires-in-loop-s : goal.pass-s-requires-in-loop-s
 pass-s-requires-in-loop-s c =
     record {
       searchable = (c.requires.searchable.0, next_range c);
-      stride_nonzero = c.requires.stride_nonzero;
+      stride_in = c.requires.stride_in;
     }
 
 pub loop-s-smaller : goal.loop-s-smaller
@@ -65,6 +65,6 @@ pub returns : goal.returns
 returns c =
     let l = c.loop-s in
     record {
-      lower_bound = (l.invariant.0, l.invariant.1);
-      value = step-done c.args.lower.now c.args.upper.now c.requires.searchable.0 l.p c.args.stride (search_in l.s) c.requires.stride_nonzero.0 l.invariant.2 (omega arith) l.invariant.1;
+      between = (l.invariant.0, l.invariant.1);
+      exact = step-done c.args.lower.now c.args.upper.now c.requires.searchable.0 l.p c.args.stride (search_in l.s) c.requires.stride_in.0 l.invariant.2 (omega arith) l.invariant.1;
     }

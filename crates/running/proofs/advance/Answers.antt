@@ -45,13 +45,13 @@ take_column-column-requires c = (
 pub returns-then-i-ne0 : goal.returns-then-i-ne0
 unfolding Advanced
 returns-then-i-ne0 c =
-    let found = c.first_breach-i.ensures.upper_bound (omega arith) in
+    let found = c.first_breach-i.ensures.first (omega arith) in
     (refl, (refl, (refl, (refl, ((omega arith, found.0), rw (column_is (goal.at.returns-then-i-ne0 c).After-take_column-column, add-one) at found.1)))))
 
 pub returns : goal.returns
 unfolding Advanced
 returns c =
-    let none = c.first_breach-i.ensures.i_value (omega (arith, c.if-i-ne0.false)) in
+    let none = c.first_breach-i.ensures.none (omega (arith, c.if-i-ne0.false)) in
     let column = column_is (goal.at.returns c).After-take_column-column in
     let r = c.report.ensures in (
       λ i h. rw (column, add-one) at (none i h),

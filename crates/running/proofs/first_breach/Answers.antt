@@ -11,8 +11,8 @@ pub returns-then-link_breaks : goal.returns-then-link_breaks
 returns-then-link_breaks c =
     let l = c.loop-i in
     record {
-      i_value = λ z. absurd (omega (arith, l.invariant.0, z));
-      upper_bound = λ p. (c.loop-i-test.true, sym c.link_breaks.ensures ∙ c.if-link_breaks.true);
+      none = λ z. absurd (omega (arith, l.invariant.0, z));
+      first = λ p. (c.loop-i-test.true, sym c.link_breaks.ensures ∙ c.if-link_breaks.true);
     }
 
 pub loop-i-preserved : goal.loop-i-preserved
@@ -23,6 +23,6 @@ loop-i-preserved c =
 
 pub returns : goal.returns
 returns c = record {
-  i_value = λ z v h. c.loop-i.invariant.1.1 v (h.0, omega (arith, h, c.loop-i-test.false));
-  upper_bound = λ p. absurd (omega (arith, p));
+  none = λ z v h. c.loop-i.invariant.1.1 v (h.0, omega (arith, h, c.loop-i-test.false));
+  first = λ p. absurd (omega (arith, p));
 }

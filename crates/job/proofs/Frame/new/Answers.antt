@@ -3,12 +3,12 @@ use Rattle.job.proofs.Frame.new.Goals as goal
 
 pub returns-then-size-gt-GREATEST : goal.returns-then-size-gt-GREATEST
 returns-then-size-gt-GREATEST c = let h = lt-ltb _ _ c.if-size-gt-GREATEST.true in record {
-  value = simp h;
-  result_value = simp h;
+  made = simp h;
+  number = simp h;
 }
 
 pub returns-else-size-gt-GREATEST : goal.returns-else-size-gt-GREATEST
 returns-else-size-gt-GREATEST c = let h = le-ltb _ _ c.if-size-gt-GREATEST.false in record {
-  value = simp h;
-  result_value = simp h;
+  made = simp h;
+  number = simp h;
 }

@@ -3,7 +3,7 @@ use Rattle.job.proofs.Limits.all.Goals as goal
 
 pub returns : goal.returns
 returns c = record {
-  value = refl;
+  bounds = refl;
   fewest_nodes = refl;
   most_nodes = refl;
   fewest_frames = refl;

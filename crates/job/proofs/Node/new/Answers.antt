@@ -4,8 +4,8 @@ use Rattle.job.proofs.Node.new.Goals as goal
 
 pub returns-then-number-node : goal.returns-then-number-node
 returns-then-number-node c = let parent = le-ltb _ _ c.if-number-node.true in record {
-  value = simp parent;
-  result_value = simp parent;
+  made = simp parent;
+  number = simp parent;
 }
 
 pub returns-then-delay_wrong : goal.returns-then-delay_wrong
@@ -13,8 +13,8 @@ returns-then-delay_wrong c =
     let parent = lt-ltb _ _ c.if-number-node.false in
     let delay = sym c.delay_wrong.ensures ∙ c.if-delay_wrong.true in
     record {
-      value = simp (parent, delay);
-      result_value = simp (parent, delay);
+      made = simp (parent, delay);
+      number = simp (parent, delay);
     }
 
 pub returns-then-node-gt-GREATEST_MEMORY : goal.returns-then-node-gt-GREATEST_MEMORY
@@ -23,8 +23,8 @@ returns-then-node-gt-GREATEST_MEMORY c =
     let delay = sym c.delay_wrong.ensures ∙ c.if-delay_wrong.false in
     let memory = lt-ltb _ _ c.if-node-gt-GREATEST_MEMORY.true in
     record {
-      value = simp (parent, delay, memory);
-      result_value = simp (parent, delay, memory);
+      made = simp (parent, delay, memory);
+      number = simp (parent, delay, memory);
     }
 
 pub returns-then-node-gt-GREATEST_RATE : goal.returns-then-node-gt-GREATEST_RATE
@@ -34,8 +34,8 @@ returns-then-node-gt-GREATEST_RATE c =
     let memory = le-ltb _ _ c.if-node-gt-GREATEST_MEMORY.false in
     let rate = lt-ltb _ _ c.if-node-gt-GREATEST_RATE.true in
     record {
-      value = simp (parent, delay, memory, rate);
-      result_value = simp (parent, delay, memory, rate);
+      made = simp (parent, delay, memory, rate);
+      number = simp (parent, delay, memory, rate);
     }
 
 pub returns : goal.returns
@@ -45,6 +45,6 @@ returns c =
     let memory = le-ltb _ _ c.if-node-gt-GREATEST_MEMORY.false in
     let rate = le-ltb _ _ c.if-node-gt-GREATEST_RATE.false in
     record {
-      value = simp (parent, delay, memory, rate);
-      result_value = simp (parent, delay, memory, rate);
+      made = simp (parent, delay, memory, rate);
+      number = simp (parent, delay, memory, rate);
     }

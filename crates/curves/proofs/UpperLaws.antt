@@ -1,7 +1,7 @@
 -- Laws of the upper curve: it is the greatest closed family that is nowhere above `high`.
 use mathlib.Core.Bool.{true, false}
 use mathlib.Core.Path.{◌≡◌, refl, ◌∙◌}
-use mathlib.Core.Logic.{◌≢◌, ◌⊎◌, ⊎_elim}
+use mathlib.Core.Logic.{◌≢◌, ⊎_elim}
 use Prim.Native.Nat.{ℕ, zero, suc, ◌+◌, ◌-◌, ◌≤◌, ◌<◌, min}
 use native.Mathlib.Omega.{arith}
 use native.Mathlib.Decide.{ℕ_discrete}
@@ -9,7 +9,7 @@ use borrow.Author.Tests.{eq-eqb, ne_eqb}
 use Rattle.base.specs.Range.{least_over}
 use Rattle.base.proofs.BoolLaws.{true_or_false, not_both}
 use Rattle.base.proofs.RangeLaws.{some-passes, least_over-below, least_over-above, least_over_cong}
-use Rattle.job.specs.Tree.{Tree, TreeWithin, child, leaf, has_child, below}
+use Rattle.job.specs.Tree.{Tree, TreeWithin, child, leaf, has_child}
 use Rattle.job.proofs.TreeLaws.{leaf_in, leaf_or_child, child_of, child_is, child_in}
 use Rattle.smoothing.specs.Tree.{Link, Closed, GreatestClosedBelow}
 use Rattle.curves.specs.Curves.{D, room_in, room, least_up, upper_curve, high, problem}

@@ -1,6 +1,6 @@
 -- Document 01, 'Curves and plan rules': D, the lower and the upper curve, the lazy schedule; and the bounds that the theory of `smoothing` starts from.
 -- T is any function of a frame count, and top stands for T(M).
-use Rattle.std.specs.Prelude.{Bool, cond, ◌&&◌, List, ◌≡◌, ℕ, zero, suc, ◌+◌, ◌-◌, ◌*◌, ◌≤◌, ◌<◌, max, min, eqb, length, get_or}
+use Rattle.std.specs.Prelude.{Bool, cond, ◌&&◌, ℕ, zero, suc, ◌+◌, ◌-◌, max, min, eqb}
 use Rattle.base.specs.Range.{greatest_over, least_over}
 use Rattle.job.specs.Tree.{Tree, child, leaf, below}
 use Rattle.smoothing.specs.Plan.{Problem}

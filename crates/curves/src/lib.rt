@@ -1,6 +1,7 @@
 // The curves of document 01: one function fills a row with a node's lower curve, one the rows of all links with their upper curves.
 // Definitions to believe: specs/Curves; what the functions below work with: specs/Rows.
 #![tactic(auto)]
+
 ghost use Rattle.std.specs.Prelude.{true, ◌≡◌, ◌+◌, ◌-◌, ◌*◌, ◌≤◌, ◌<◌, max, min, length, get_or, set};
 ghost use Rattle.base.specs.Table.{tab};
 ghost use Rattle.job.specs.Limits.{most_nodes, most_slots, greatest_memory};

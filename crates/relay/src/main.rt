@@ -1,6 +1,7 @@
 // The program: reads a job from standard input and prints both answers to it. Everything that is printed comes from `answer`, which
 // says what the text is; reading and writing are thin. Definitions to believe: specs/Decimal, Text, Printed.
 #![tactic(auto)]
+
 ghost use Rattle.std.specs.Prelude.{[], ◌∷◌, ◌++◌, ◌≡◌, ◌+◌, ◌-◌, ◌*◌, ◌≤◌, ◌<◌, length, take, drop};
 ghost use Rattle.io.specs.Counts.{IsPrefixLen};
 ghost use Rattle.base.specs.Table.{rows_of};
@@ -307,7 +308,10 @@ fn main(rt: HostRuntime) {
     let input = read_job(&mut rt.stdin(), &mut buf);
     let count = input.count;
     if input.failed {
-        complain(&mut rt.stderr(), b"relay: standard input could not be read\n");
+        complain(
+            &mut rt.stderr(),
+            b"relay: standard input could not be read\n",
+        );
     } else {
         show(&mut rt.stdout(), &mut rt.stderr(), &buf[..count]);
     }

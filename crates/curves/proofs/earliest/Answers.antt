@@ -3,10 +3,9 @@ use Rattle.base.specs.Range.{first}
 use Rattle.base.specs.Set.{has, word_bits}
 use Rattle.base.proofs.SetLaws.{first_lt}
 use Rattle.base.proofs.RangeLaws.{first-least}
-use Rattle.base.proofs.WalkLaws.{Walked, walk_start, walk_in, walk_next, walk_done}
+use Rattle.base.proofs.WalkLaws.{walk_start, walk_in, walk_next, walk_done}
 use Rattle.curves.specs.Rows.{earlier}
 use Rattle.curves.proofs.LeafLaws.{member_lt, earliest_in}
-use borrow.Author.Rules.{rules}
 use native.Mathlib.Omega.{arith}
 use Rattle.curves.proofs.earliest.Goals as goal
 use Rattle.curves.proofs.earliest.Goals.{In-loop-rest}

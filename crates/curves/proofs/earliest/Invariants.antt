@@ -1,13 +1,7 @@
-use Prim.Native.Nat.{◌<◌}
 use Rattle.base.specs.Range.{first}
 use Rattle.base.specs.Set.{has, word_bits}
-use Rattle.base.proofs.SetLaws.{first_lt}
-use Rattle.base.proofs.RangeLaws.{first-least}
-use Rattle.base.proofs.WalkLaws.{Walked, walk_start, walk_in, walk_next, walk_done}
+use Rattle.base.proofs.WalkLaws.{Walked}
 use Rattle.curves.specs.Rows.{earlier}
-use Rattle.curves.proofs.LeafLaws.{member_lt, earliest_in}
-use borrow.Author.Rules.{rules}
-use native.Mathlib.Omega.{arith}
 use Rattle.curves.proofs.earliest.Given as goal
 
 abbrev pub invariant-loop-rest : goal.invariant-loop-rest

@@ -1,6 +1,5 @@
 use Rattle.curves.proofs.AllRowsLaws.{high_slots}
 use mathlib.Core.Path.{◌∙◌}
-use borrow.Author.Rules.{rules}
 use Rattle.curves.proofs.high_row.Goals as goal
 
 pub returns : goal.returns

@@ -1,6 +1,6 @@
 use mathlib.Core.Path.{◌≡◌, refl, ◌∙◌}
-use mathlib.Core.List.{List, ◌++◌}
-use Prim.Native.Nat.{ℕ, suc, ◌+◌, ◌-◌, ◌*◌, ◌≤◌}
+use mathlib.Core.List.{List}
+use Prim.Native.Nat.{ℕ, suc, ◌+◌, ◌-◌, ◌≤◌}
 use native.Mathlib.Numerals.{add-one}
 use native.Mathlib.Nat.{suc-mul}
 use lib.ListN.{length, take, drop}
@@ -10,8 +10,6 @@ use Rattle.base.proofs.TableLaws.{length-tab, rows_more, rows-done, row_end, len
 use Rattle.job.specs.Read.{tree_in}
 use Rattle.curves.specs.Curves.{high}
 use Rattle.job.specs.Sums.{sums_in, last_in}
-use Rattle.curves.specs.Rows.{high_rows}
-use borrow.Author.Rules.{rules}
 use native.Mathlib.Omega.{arith}
 use Rattle.curves.proofs.high_rows.Goals as goal
 use Rattle.curves.proofs.high_rows.Goals.{In-loop-i}

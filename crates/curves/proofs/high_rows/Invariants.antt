@@ -1,18 +1,10 @@
-use mathlib.Core.Path.{◌≡◌, refl, ◌∙◌}
-use mathlib.Core.List.{List, ◌++◌}
-use Prim.Native.Nat.{ℕ, suc, ◌+◌, ◌-◌, ◌*◌, ◌≤◌}
-use native.Mathlib.Numerals.{add-one}
-use native.Mathlib.Nat.{suc-mul}
-use lib.ListN.{length, take, drop}
-use borrow.Rule.Slice.PartMut.{same_len_mid}
-use Rattle.base.specs.Table.{tab, rows_of}
-use Rattle.base.proofs.TableLaws.{length-tab, rows_more, rows-done, row_end, length_part}
+use mathlib.Core.Path.{◌≡◌}
+use mathlib.Core.List.{◌++◌}
+use Prim.Native.Nat.{◌-◌, ◌*◌, ◌≤◌}
+use lib.ListN.{length, drop}
 use Rattle.job.specs.Read.{tree_in}
-use Rattle.curves.specs.Curves.{high}
 use Rattle.job.specs.Sums.{sums_in, last_in}
 use Rattle.curves.specs.Rows.{high_rows}
-use borrow.Author.Rules.{rules}
-use native.Mathlib.Omega.{arith}
 use Rattle.curves.proofs.high_rows.Given as goal
 
 abbrev pub invariant-loop-i : goal.invariant-loop-i

@@ -1,12 +1,10 @@
 use Rattle.base.proofs.BoolLaws.{not_both}
 use mathlib.Core.Path.{◌≡◌, refl, ◌∙◌}
-use Prim.Native.Nat.{◌-◌}
 use lib.ListN.{length, get_or}
 use Rattle.job.specs.Read.{tree_in}
 use Rattle.curves.proofs.RowLaws.{none-taken}
 use Rattle.curves.proofs.AllRowsLaws.{less_in_range, near_own}
 use native.Mathlib.Omega.{arith}
-use borrow.Author.Rules.{rules}
 use Rattle.curves.proofs.keep_row.Goals as goal
 
 pub returns-then-c-u : goal.returns-then-c-u

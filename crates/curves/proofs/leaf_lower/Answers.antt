@@ -1,6 +1,5 @@
 use Rattle.curves.specs.Rows.{leaf_lower}
 use mathlib.Core.Path.{◌∙◌}
-use borrow.Author.Rules.{rules}
 use Rattle.curves.proofs.leaf_lower.Goals as goal
 
 pub returns : goal.returns

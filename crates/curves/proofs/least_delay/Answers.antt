@@ -6,7 +6,6 @@ use Rattle.base.proofs.SetLaws.{first_in}
 use Rattle.job.specs.Read.{tree_in}
 use Rattle.curves.proofs.LeafLaws.{member_lt, earliest_in, earliest_least, some_in, least_of_set}
 use native.Mathlib.Omega.{arith}
-use borrow.Author.Rules.{rules}
 use Rattle.curves.proofs.least_delay.Goals as goal
 use Rattle.curves.proofs.least_delay.Goals.{After-earliest}
 

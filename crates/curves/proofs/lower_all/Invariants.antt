@@ -1,11 +1,7 @@
 use Rattle.base.specs.Table.{Filled}
-use Rattle.base.proofs.TableLaws.{filled_none, filled_more, filled-ahead, filled-done}
 use lib.ListN.{length, get_or}
 use mathlib.Core.List.{List}
-use mathlib.Core.Path.{◌≡◌, ◌∙◌}
 use Prim.Native.Nat.{ℕ, ◌-◌, min}
-use borrow.Author.Rules.{rules}
-use native.Mathlib.Omega.{arith}
 use Rattle.curves.proofs.lower_all.Given as goal
 
 abbrev pub row : List ℕ → ℕ → ℕ → ℕ

@@ -11,7 +11,6 @@ use lib.Seq.{get_or-take}
 use mathlib.Core.Path.{◌≡◌, refl, ap, sym, ◌∙◌}
 use Prim.Native.Nat.{ℕ, ◌+◌, ◌-◌, ◌≤◌, ◌<◌, min}
 use native.Mathlib.Omega.{arith}
-use borrow.Author.Rules.{rules}
 use Rattle.curves.proofs.lower_by_leaf.Goals as goal
 use Rattle.curves.proofs.lower_by_leaf.Goals.{Start}
 

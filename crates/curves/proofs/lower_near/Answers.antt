@@ -10,7 +10,6 @@ use Rattle.job.specs.Read.{tree_in}
 use Rattle.curves.proofs.LowerLaws.{parent-lower}
 use Rattle.curves.proofs.AllRowsLaws.{near_other}
 use native.Mathlib.Omega.{arith}
-use borrow.Author.Rules.{rules}
 use Rattle.curves.proofs.lower_near.Goals as goal
 use Rattle.curves.proofs.lower_near.Goals.{Start}
 

@@ -8,8 +8,7 @@ use Rattle.base.specs.Table.{tab}
 use Rattle.base.proofs.TableLaws.{length-tab}
 use Rattle.job.specs.Read.{tree_in}
 use Rattle.job.specs.Limits.{most_nodes, greatest_memory}
-use Rattle.curves.proofs.LowerRowLaws.{LowerSoFar, lower-start, lower_up, lower-fits, lower-taken, lower_next, lower-done}
-use borrow.Author.Rules.{rules}
+use Rattle.curves.proofs.LowerRowLaws.{lower-start, lower_up, lower-fits, lower-taken, lower_next, lower-done}
 use native.Mathlib.Omega.{arith}
 use Rattle.curves.proofs.lower_row.Goals as goal
 use Rattle.curves.proofs.lower_row.Goals.{At-loop-a, In-loop-a}
@@ -24,8 +23,7 @@ up : (c : In-loop-a) → let l = c.loop-a in
     let p = (tree_in a.job).parent l.a in
     ((0 < p) × (p < l.a)) × (l.less + (tree_in a.job).memory p ≤ (a.i - p) * greatest_memory)
 up c =
-    let l = c.loop-a in
-    (
+    let l = c.loop-a in (
       lower_up _ _ c.requires.0.tree _ c.requires.1 _ _ _ _ _ _ l.invariant (omega arith),
       lower-fits _ _ c.requires.0.tree _ c.requires.1 _ _ _ _ _ _ l.invariant (omega arith),
     )

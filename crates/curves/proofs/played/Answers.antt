@@ -1,5 +1,4 @@
 use Rattle.job.specs.Sums.{sums_in}
-use borrow.Author.Rules.{rules}
 use Rattle.curves.proofs.played.Goals as goal
 
 pub returns : goal.returns

@@ -1,10 +1,6 @@
-use Rattle.base.specs.Table.{Filled}
 use Rattle.base.proofs.TableLaws.{filled_none, filled_more, filled-ahead, filled-done}
-use lib.ListN.{length, get_or}
-use mathlib.Core.List.{List}
 use mathlib.Core.Path.{◌≡◌, ◌∙◌}
 use Prim.Native.Nat.{ℕ, ◌+◌, ◌-◌, max}
-use borrow.Author.Rules.{rules}
 use native.Mathlib.Omega.{arith}
 use Rattle.curves.proofs.raise_by.Goals as goal
 use Rattle.curves.proofs.raise_by.Invariants.{row}

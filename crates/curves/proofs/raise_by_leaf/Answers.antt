@@ -9,7 +9,6 @@ use lib.ListN.{length, take, drop, get_or}
 use mathlib.Core.Path.{refl, ap, sym, ◌∙◌}
 use Prim.Native.Nat.{ℕ, ◌+◌, ◌-◌, ◌<◌}
 use native.Mathlib.Omega.{arith}
-use borrow.Author.Rules.{rules}
 use Rattle.curves.proofs.raise_by_leaf.Goals as goal
 
 pub returns-then-fresh : goal.returns-then-fresh

@@ -2,15 +2,13 @@ use mathlib.Core.Bool.{true}
 use mathlib.Core.Path.{◌≡◌, refl, ap, ◌∙◌}
 use lib.ListN.{length}
 use Rattle.base.proofs.BoolLaws.{not_both, otherwise}
-use Rattle.base.specs.Range.{first}
 use Rattle.base.specs.Set.{has, word_bits}
 use Rattle.base.proofs.SetLaws.{first_in, first_lt}
-use Rattle.base.proofs.WalkLaws.{Walked, walk_start, walk_next, walk_done}
+use Rattle.base.proofs.WalkLaws.{walk_start, walk_next, walk_done}
 use Rattle.job.specs.Read.{tree_in}
-use Rattle.curves.specs.Rows.{begun, raised_by, TakenIn}
+use Rattle.curves.specs.Rows.{begun}
 use Rattle.curves.proofs.LeafLaws.{member_lt, earliest_in}
 use Rattle.curves.proofs.RowLaws.{begun-length, begun-same, raised_length, raised_by_none, raised_by_all_lem}
-use borrow.Author.Rules.{rules}
 use native.Mathlib.Omega.{arith}
 use Rattle.curves.proofs.raise_by_leaves.Goals as goal
 use Rattle.curves.proofs.raise_by_leaves.Goals.{After-earliest-first}

@@ -1,8 +1,6 @@
 use mathlib.Core.Path.{sym, ◌∙◌}
-use Prim.Native.Nat.{◌-◌}
 use Rattle.job.specs.Sums.{last_in}
 use Rattle.curves.proofs.AllRowsLaws.{roof-leaf, roof_inner}
-use borrow.Author.Rules.{rules}
 use Rattle.curves.proofs.roof_row.Goals as goal
 
 pub returns-then-member : goal.returns-then-member

@@ -1,11 +1,8 @@
 use Rattle.job.specs.Sums.{sums_in}
 use Rattle.base.specs.Table.{Filled}
-use Rattle.base.proofs.TableLaws.{filled_none, filled_more, filled-done}
-use lib.ListN.{length, get_or}
+use lib.ListN.{length}
 use mathlib.Core.Path.{◌≡◌}
 use Prim.Native.Nat.{◌-◌}
-use borrow.Author.Rules.{rules}
-use native.Mathlib.Omega.{arith}
 use Rattle.curves.proofs.shift.Given as goal
 
 abbrev pub invariant-loop-k : goal.invariant-loop-k

@@ -1,6 +1,5 @@
 use Rattle.curves.proofs.RowLaws.{zero-none}
 use native.Mathlib.Omega.{arith}
-use borrow.Author.Rules.{rules}
 use Rattle.curves.proofs.start_at_zero.Goals as goal
 
 pub returns-else-out-gt0 : goal.returns-else-out-gt0

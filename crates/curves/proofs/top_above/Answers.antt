@@ -1,8 +1,6 @@
-use borrow.Author.Rules.{rules}
 use native.Mathlib.Omega.{arith}
 use Rattle.curves.proofs.LowerLaws.{parent-lower}
 use Rattle.job.specs.Read.{tree_in}
-use Prim.Native.Nat.{◌≤◌, ◌<◌}
 use Rattle.curves.proofs.top_above.Goals as goal
 
 pub loop-a-smaller : goal.loop-a-smaller

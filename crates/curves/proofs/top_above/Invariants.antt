@@ -1,7 +1,3 @@
-use borrow.Author.Rules.{rules}
-use native.Mathlib.Omega.{arith}
-use Rattle.curves.proofs.LowerLaws.{parent-lower}
-use Rattle.job.specs.Read.{tree_in}
 use Prim.Native.Nat.{◌≤◌, ◌<◌}
 use Rattle.curves.proofs.top_above.Given as goal
 

@@ -3,7 +3,6 @@ use Prim.Native.Nat.{◌-◌}
 use Rattle.job.proofs.TreeLaws.{link_is}
 use Rattle.curves.proofs.AllRowsLaws.{high_range, opened}
 use native.Mathlib.Omega.{arith}
-use borrow.Author.Rules.{rules}
 use Rattle.curves.proofs.upper_rows.Goals as goal
 
 pub open_rows-requires : goal.open_rows-requires

@@ -56,8 +56,7 @@ overflow_sub-job c = omega (arith, (accepted (goal.at.overflow_sub-job c).Else-r
 
 pub both-requires : goal.both-requires
 both-requires c =
-    let acc = accepted (goal.at.both-requires c).Else-read-ne0 in
-    (
+    let acc = accepted (goal.at.both-requires c).Else-read-ne0 in (
       record {
         plan_is = length_is (goal.at.both-requires c).After-plan_length-planned;
         plan_fits = omega (arith, c.if-planned-gt-MOST_PLANNED.false);

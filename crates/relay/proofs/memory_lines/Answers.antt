@@ -17,8 +17,7 @@ pub returns-in-Refused : goal.returns-in-Refused
 unfolding memory_text
 returns-in-Refused c =
     let a = c.add_alone in
-    let q = c.memory_question in
-    (
+    let q = c.memory_question in (
       record {
         plan₀ = c.args.plan.now;
         plan₁ = q.new.plan;
@@ -38,8 +37,7 @@ unfolding memory_text
 returns-in-Planned c =
     let n = c.add_nodes in
     let a = c.add_given-at in
-    let q = c.memory_question in
-    (
+    let q = c.memory_question in (
       record {
         plan₀ = c.args.plan.now;
         plan₁ = q.new.plan;

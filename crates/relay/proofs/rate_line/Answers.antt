@@ -7,8 +7,7 @@ pub returns-in-Refused : goal.returns-in-Refused
 unfolding rate_text
 returns-in-Refused c =
     let a = c.add_alone in
-    let q = c.rate_question in
-    (
+    let q = c.rate_question in (
       record {
         text = _;
         line =
@@ -29,8 +28,7 @@ pub returns-in-Sized : goal.returns-in-Sized
 unfolding rate_text
 returns-in-Sized c =
     let a = c.add_given in
-    let q = c.rate_question in
-    (
+    let q = c.rate_question in (
       record {
         text = _;
         line =

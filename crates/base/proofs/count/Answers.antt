@@ -1,3 +1,4 @@
+-- The count of ones is the count of members; it is at most the width of a word, so it fits a usize.
 use native.Mathlib.Omega.{arith}
 use lib.Count.{ones-le}
 use Rattle.base.proofs.SetLaws.{count_is}

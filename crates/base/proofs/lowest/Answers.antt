@@ -1,3 +1,4 @@
+-- The count of trailing zeros is the first member, or the width of a word where there is none; so it fits a usize.
 use native.Mathlib.Omega.{arith}
 use lib.Count.{trailing_le}
 use Rattle.base.proofs.SetLaws.{lowest_is}

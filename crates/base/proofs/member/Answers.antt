@@ -1,3 +1,4 @@
+-- Within the word the test is the definition of a member; past it a word has none.
 use mathlib.Core.Path.{sym, refl}
 use native.Mathlib.Omega.{arith}
 use Rattle.base.specs.Set.{has}

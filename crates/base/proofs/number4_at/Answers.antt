@@ -1,3 +1,4 @@
+-- No loop: each step stays in a word, since a byte is less than 256; the sum is the definition at width 4, written out.
 use native.Mathlib.Nat.{add-zero}
 use native.Mathlib.Omega.{arith}
 use Rattle.base.specs.Number.{number}

@@ -1,3 +1,4 @@
+-- The loop keeps that r is the number in the first i bytes and less than 256 ^ i, which leaves room for a byte more.
 use mathlib.Core.Path.{◌≡◌}
 use Prim.Native.Nat.{ℕ, ◌≤◌, ◌<◌, ◌^◌}
 use native.Mathlib.Numerals.{add-one}

@@ -1,3 +1,4 @@
+-- Both words together, with the second taken out again by exclusive or, leave what only the first has.
 use Rattle.base.proofs.SetLaws.{has-outside}
 use Rattle.base.proofs.outside.Goals as goal
 

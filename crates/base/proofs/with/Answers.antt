@@ -1,3 +1,4 @@
+-- By cases: with room for i its bit is joined to the word; without, the word is the answer as it is.
 use Rattle.base.proofs.SetLaws.{has_with, has_without}
 use Rattle.base.proofs.with.Goals as goal
 

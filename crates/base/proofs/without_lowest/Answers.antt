@@ -1,3 +1,4 @@
+-- By cases: the empty set stays; else s & (s - 1) clears the lowest member, and is at most s - 1.
 use mathlib.Core.Path.{refl}
 use native.Mathlib.Omega.{arith}
 use lib.Bits.{and_le_r}

@@ -1,3 +1,4 @@
+-- The loop walks the set, and keeps that `found` is the earliest of the members met.
 use Prim.Native.Nat.{◌<◌}
 use Rattle.base.specs.Range.{first}
 use Rattle.base.specs.Set.{has, word_bits}

@@ -1,3 +1,4 @@
+-- The roof with its slot 0 set to 0 is what the link's own rules allow.
 use Rattle.curves.proofs.AllRowsLaws.{high_slots}
 use mathlib.Core.Path.{◌∙◌}
 use Rattle.curves.proofs.high_row.Goals as goal

@@ -1,3 +1,4 @@
+-- The loop keeps that the rows before link i are filled; the rest of the table is as lent.
 use mathlib.Core.Path.{◌≡◌, refl, ◌∙◌}
 use mathlib.Core.List.{List}
 use Prim.Native.Nat.{ℕ, suc, ◌+◌, ◌-◌, ◌≤◌}

@@ -1,3 +1,4 @@
+-- The set has a leaf, so its earliest is a member; no leaf at or below the node starts before it.
 use mathlib.Core.Bool.{true}
 use mathlib.Core.Path.{◌≡◌}
 use Rattle.base.specs.Range.{first}

@@ -1,3 +1,4 @@
+-- The loop keeps `LowerSoFar`: the leaves at or below node a have been taken in, and what the row lacks is what a's ancestors bring.
 use Rattle.base.proofs.BoolLaws.{not_both}
 use Rattle.curves.proofs.LeafLaws.{some_in}
 use Rattle.curves.proofs.RowLaws.{fresh_taken, all_length}

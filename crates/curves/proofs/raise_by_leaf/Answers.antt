@@ -1,3 +1,5 @@
+-- By cases: a fresh row is the film shifted; one that has taken in an earlier delay stays; else the slots with frames and those past
+-- the film are raised part by part, which together raise the row.
 use Rattle.base.proofs.TableLaws.{length_part}
 use Rattle.rows.specs.Row.{InRange}
 use Rattle.job.specs.Read.{tree_in}

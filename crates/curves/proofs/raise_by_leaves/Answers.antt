@@ -1,3 +1,4 @@
+-- The earliest leaf first, then the loop walks the rest and keeps that the row has been raised by each leaf met.
 use mathlib.Core.Bool.{true}
 use mathlib.Core.Path.{◌≡◌, refl, ap, ◌∙◌}
 use lib.ListN.{length}

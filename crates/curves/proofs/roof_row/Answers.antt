@@ -1,3 +1,4 @@
+-- By cases: every slot has T(M), and at a leaf is capped by what its memory allows.
 use mathlib.Core.Path.{sym, ◌∙◌}
 use Rattle.job.specs.Sums.{last_in}
 use Rattle.curves.proofs.AllRowsLaws.{roof-leaf, roof_inner}

@@ -1,3 +1,4 @@
+-- The loop keeps that a lies on the way up, below the root; each turn goes to a lower number, so it ends.
 use native.Mathlib.Omega.{arith}
 use Rattle.curves.proofs.LowerLaws.{parent-lower}
 use Rattle.job.specs.Read.{tree_in}

@@ -1,3 +1,4 @@
+-- What each link's own rules allow is within the limits, so the two passes of `open_rows` make the upper curves of it.
 use mathlib.Core.Path.{refl, ◌∙◌}
 use Prim.Native.Nat.{◌-◌}
 use Rattle.job.proofs.TreeLaws.{link_is}

@@ -1,3 +1,4 @@
+-- Leaf or not, the test is the check's own.
 use Rattle.job.proofs.delay_wrong.Goals as goal
 
 pub returns-then-leaf : goal.returns-then-leaf

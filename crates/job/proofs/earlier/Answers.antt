@@ -1,3 +1,4 @@
+-- Each test answers one row of the chain: past it that row doesn't apply.
 use borrow.Author.Tests.{eq-eqb, ne_eqb}
 use Rattle.job.proofs.earlier.Goals as goal
 

@@ -1,3 +1,4 @@
+-- Arrays of 0 are tables of 0, by computation.
 use mathlib.Core.Path.{refl}
 use Rattle.base.specs.Table.{tab}
 use Rattle.job.proofs.empty.Goals as goal

@@ -1,3 +1,4 @@
+-- Each test answers one of rows 1 to 3; past it that row doesn't apply.
 use mathlib.Core.Path.{sym, ◌∙◌}
 use borrow.Author.Tests.{lt-ltb, le-ltb, eq-eqb, ne_eqb}
 use Rattle.job.specs.Bytes.{mark, version, mark_rLY, version_one}

@@ -1,3 +1,4 @@
+-- The parent is compared, and where it is another node the set is asked.
 use mathlib.Core.Path.{sym, ◌∙◌, refl}
 use borrow.Author.Tests.{eq-eqb, ne_eqb}
 use Rattle.job.proofs.joins.Goals as goal

@@ -1,3 +1,4 @@
+-- The loop keeps that acc is the greatest over the members walked so far.
 use Prim.Native.Nat.{◌<◌}
 use native.Mathlib.Omega.{arith}
 use Rattle.base.specs.Set.{has, word_bits}

@@ -1,3 +1,4 @@
+-- Part by part of the table: the first that refuses gives the number, and past it the chain goes on with the next.
 use mathlib.Core.Path.{◌≡◌, refl, ap, sym, ◌∙◌}
 use Prim.Native.Nat.{ℕ, ◌+◌, ◌*◌, ◌≤◌}
 use native.Mathlib.Omega.{arith}

@@ -1,3 +1,4 @@
+-- Each field is read at its place, which lies within the record, and that within the bytes.
 use mathlib.Core.Path.{refl, ◌∙◌}
 use Prim.Native.Nat.{◌+◌, ◌≤◌}
 use native.Mathlib.Omega.{arith}

@@ -1,3 +1,4 @@
+-- The loop keeps the first row among the nodes below i and, where there is none, that the struct has their records.
 use mathlib.Core.Bool.{not}
 use mathlib.Core.Path.{◌≡◌, refl, ap, sym, ◌∙◌}
 use Prim.Native.Nat.{ℕ, ◌<◌}

@@ -1,3 +1,4 @@
+-- The loop keeps that the struct has the parents of the nodes below i, and nothing else in its records.
 use mathlib.Core.Path.{◌≡◌, refl, ap, ◌∙◌}
 use Prim.Native.Nat.{ℕ, ◌+◌, ◌≤◌}
 use native.Mathlib.Omega.{arith}

@@ -1,3 +1,4 @@
+-- The nodes' rows come first: where they refuse, the frames change nothing; else the frames' row is what is left of the chain.
 use mathlib.Core.Bool.{◌&&◌, cond}
 use mathlib.Core.List.{List}
 use mathlib.Core.Path.{◌≡◌, refl, ap, sym, ◌∙◌}

@@ -1,3 +1,4 @@
+-- The reading's number is the refusal.
 use Rattle.job.proofs.RefusalLaws.{read_number}
 use Rattle.job.proofs.refusal.Goals as goal
 

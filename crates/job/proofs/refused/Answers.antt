@@ -1,3 +1,4 @@
+-- The empty job is that of a refusal.
 use mathlib.Core.Path.{refl}
 use Rattle.job.proofs.refused.Goals as goal
 

@@ -1,3 +1,4 @@
+-- A refusal has its number alone; an accepted job's struct holds the job that the bytes say, so its sizes are that job's.
 use mathlib.Core.List.{List}
 use mathlib.Core.Path.{◌≡◌, refl}
 use Prim.Native.Nat.{ℕ}

@@ -1,3 +1,4 @@
+-- The loop keeps the place of frame m, and that no frame below m is too large.
 use mathlib.Core.Path.{◌≡◌, refl, sym, ◌∙◌}
 use mathlib.Core.Bool.{true, false}
 use Prim.Native.Nat.{◌+◌, ◌≤◌}

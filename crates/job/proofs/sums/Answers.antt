@@ -1,3 +1,4 @@
+-- The part is filled by write_sums and taken again: the first count places of the room are then its numbers.
 use mathlib.Core.Path.{◌≡◌, ap, ◌∙◌}
 use Prim.Native.Nat.{◌+◌, ◌-◌}
 use lib.ListN.{length}

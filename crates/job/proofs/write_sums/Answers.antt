@@ -1,3 +1,4 @@
+-- The loop keeps the place and the sum of the first m frames, and that places 0 to m hold T.
 use mathlib.Core.Path.{◌≡◌, ap, sym, ◌∙◌}
 use Prim.Native.Nat.{ℕ, ◌+◌, ◌≤◌}
 use native.Mathlib.Omega.{arith}

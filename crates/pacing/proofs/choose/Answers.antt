@@ -1,3 +1,4 @@
+-- By the first of the four rates that is the given one.
 use mathlib.Core.Path.{◌≡◌, refl}
 use Prim.Native.Nat.{ℕ}
 use borrow.Author.Tests.{eq-eqb, ne_eqb}

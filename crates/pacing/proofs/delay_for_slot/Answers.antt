@@ -1,3 +1,4 @@
+-- In time already, never, or by so many slots as the rate needs for the sum, rounded up.
 use native.Mathlib.Omega.{arith}
 use native.Mathlib.Nat.{mul-le-mul}
 use Rattle.job.specs.Limits.{most_frames, longest_delay}

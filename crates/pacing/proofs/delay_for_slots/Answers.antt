@@ -1,3 +1,4 @@
+-- Where the last sum is in time at the first slot, all are; else the loop has the least delay for the slots before m.
 use native.Mathlib.Omega.{arith}
 use mathlib.Core.Path.{◌≡◌}
 use Prim.Native.Nat.{◌+◌, ◌-◌, ◌≤◌, ◌<◌}

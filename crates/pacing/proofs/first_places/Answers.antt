@@ -1,3 +1,4 @@
+-- Small frames are left out first; low peaks, where they are, leave as much to be found.
 use native.Mathlib.Omega.{arith}
 use Rattle.job.specs.Limits.{greatest_rate}
 use Rattle.pacing.proofs.PlaceLaws.{places_within, places_same-from, places_same_up_to}

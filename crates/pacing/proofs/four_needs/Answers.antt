@@ -1,3 +1,4 @@
+-- The loop has the leads at four rates up to place j - 1; past the last place they are the needs, or the largest frame alone is.
 use native.Mathlib.Omega.{arith}
 use mathlib.Core.List.{List}
 use mathlib.Core.Path.{◌≡◌, refl, sym}

@@ -1,3 +1,4 @@
+-- The loop has handed out to the places before i; the rest are as they were.
 use native.Mathlib.Omega.{arith}
 use Prim.Native.Nat.{◌<◌}
 use lib.ListN.{length}

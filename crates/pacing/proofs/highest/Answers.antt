@@ -1,3 +1,4 @@
+-- The loop has the greatest of the rates before i.
 use native.Mathlib.Omega.{arith}
 use mathlib.Core.Path.{◌≡◌, refl}
 use Prim.Native.Nat.{suc, ◌+◌}

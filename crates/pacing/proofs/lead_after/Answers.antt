@@ -1,3 +1,4 @@
+-- The lead some slots on is that of the definition, by its two numbers.
 use native.Mathlib.Omega.{arith}
 use mathlib.Core.Path.{refl}
 use native.Mathlib.Nat.{mul-le-mul}

@@ -1,3 +1,4 @@
+-- The loop has gone through the old places before j: those left are in front, and the rest are as they were.
 use native.Mathlib.Omega.{arith}
 use mathlib.Core.List.{List}
 use mathlib.Core.Path.{◌≡◌, refl, ap, ◌∙◌}

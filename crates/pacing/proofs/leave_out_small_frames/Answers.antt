@@ -1,3 +1,4 @@
+-- The loop has the steps up to slot m - 1 and the largest frame so far, which alone gets no further ahead than the film does.
 use native.Mathlib.Omega.{arith}
 use mathlib.Core.Path.{◌≡◌, refl, ap, sym, ◌∙◌}
 use Prim.Native.Nat.{suc, ◌+◌, ◌-◌, ◌≤◌, ◌<◌}

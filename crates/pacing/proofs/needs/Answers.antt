@@ -1,3 +1,4 @@
+-- The loop keeps that the needs at the rates below y are found and that the places do for those from `done` on; each turn finds four more.
 use native.Mathlib.Omega.{arith}
 use mathlib.Core.List.{List}
 use mathlib.Core.Path.{◌≡◌, refl, ◌∙◌}

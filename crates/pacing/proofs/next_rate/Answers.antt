@@ -1,3 +1,4 @@
+-- The loop has the least from y on of the rates before u.
 use native.Mathlib.Omega.{arith}
 use mathlib.Core.Bool.{cond}
 use mathlib.Core.List.{List}

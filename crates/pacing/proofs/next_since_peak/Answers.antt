@@ -1,3 +1,4 @@
+-- By the three cases of a lead above the bar, between floor and bar, and on the floor or below.
 use native.Mathlib.Omega.{arith}
 use mathlib.Core.Bool.{cond}
 use mathlib.Core.Path.{◌≡◌, refl}

@@ -1,3 +1,4 @@
+-- What is played since the last stop, and its product with the rate, fit a word.
 use native.Mathlib.Omega.{arith}
 use mathlib.Core.Path.{refl}
 use Prim.Native.Nat.{◌-◌, ◌≤◌}

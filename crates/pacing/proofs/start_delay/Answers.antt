@@ -1,3 +1,4 @@
+-- The loop has the least delay in time for the slots before m, and goes on by stretches; past the longest it stays there.
 use native.Mathlib.Omega.{arith}
 use Rattle.pacing.proofs.DelayLaws.{delay_before_none, delay_before_is}
 use Rattle.pacing.proofs.start_delay.Goals as goal

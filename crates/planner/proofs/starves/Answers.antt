@@ -1,3 +1,5 @@
+-- The outer loop keeps that each leaf seen stays within what its own rule allows, the inner one that this leaf does so at the slots seen;
+-- that no leaf starves follows only from all of them.
 use mathlib.Core.Path.{◌≡◌, refl, ap, sym, ◌∙◌}
 use mathlib.Core.Bool.{true}
 use Prim.Native.Nat.{◌-◌, ◌<◌}

@@ -1,3 +1,4 @@
+-- The product fits, as both factors are within their limits.
 use native.Mathlib.Omega.{arith}
 use native.Mathlib.Nat.{mul-le-mul}
 use Rattle.radio.proofs.carried_by.Goals as goal

@@ -1,3 +1,4 @@
+-- Three ways out: the reader's refusal, that of what is lent, and the lines, each as the answer's record has it.
 use mathlib.Core.Path.{◌≡◌, sym, ◌∙◌}
 use lib.ListN.{length}
 use Rattle.job.specs.Refusal.{refusal}

@@ -1,3 +1,4 @@
+-- Left at once, the stretch has no greater excess than before; else the loop keeps the greatest excess at the slots before m.
 use native.Mathlib.Omega.{arith}
 use mathlib.Core.Path.{◌≡◌, ◌∙◌}
 use Rattle.radio.proofs.CarryLaws.{excess_more, excess_stretch}

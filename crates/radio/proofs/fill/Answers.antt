@@ -1,3 +1,4 @@
+-- The loop keeps that the lines of the first i rates stand one after the other and the rest of the list is as lent.
 use native.Mathlib.Omega.{arith}
 use mathlib.Core.Path.{refl, ◌∙◌}
 use Prim.Native.Nat.{◌+◌, ◌-◌, ◌≤◌}

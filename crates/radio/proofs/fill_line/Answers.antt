@@ -1,3 +1,4 @@
+-- The smaller of the rate and T(M) has the delay and the memory of the rate itself; the two ways out are the two cases of a line.
 use native.Mathlib.Omega.{arith}
 use mathlib.Core.Path.{◌≡◌, sym, ap, ◌∙◌}
 use Prim.Native.Nat.{◌-◌, ◌≤◌, ◌<◌, min}

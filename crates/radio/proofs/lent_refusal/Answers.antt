@@ -1,3 +1,4 @@
+-- Each way out is one case of the refusals in turn.
 use native.Mathlib.Omega.{arith}
 use mathlib.Core.Path.{sym}
 use Rattle.radio.proofs.AnswerLaws.{no_rates, many_rates, wrong_list, right_list}

@@ -1,3 +1,4 @@
+-- The loop keeps the greatest excess at the slots before m, stretch by stretch; at the end that is the memory.
 use native.Mathlib.Omega.{arith}
 use mathlib.Core.Path.{refl, ◌∙◌}
 use Rattle.base.specs.Range.{greatest}

@@ -1,3 +1,4 @@
+-- Three stores fill a list of three.
 use native.Mathlib.Omega.{arith}
 use mathlib.Core.List.{List, [], ◌∷◌}
 use mathlib.Core.Path.{◌≡◌, refl}

@@ -1,3 +1,4 @@
+-- Each of three rooms is long enough for the film that chose it; the longest for any accepted film.
 use native.Mathlib.Omega.{arith}
 use Rattle.radio.proofs.with_job.Goals as goal
 

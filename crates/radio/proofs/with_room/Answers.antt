@@ -1,3 +1,4 @@
+-- The sums are those of the job, so the lines of these sums are the job's.
 use mathlib.Core.Path.{◌∙◌}
 use Rattle.job.proofs.SumsLaws.{with_sums}
 use Rattle.pacing.proofs.DelayLaws.{film_sums}

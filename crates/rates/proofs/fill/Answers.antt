@@ -1,3 +1,4 @@
+-- The loop keeps that the first i memories are stored and summed, and that what the first i nodes hand on stands at their places.
 use native.Mathlib.Omega.{arith}
 use mathlib.Core.Path.{◌≡◌, refl, sym, ap, ◌∙◌}
 use mathlib.Core.List.{List}

@@ -1,3 +1,4 @@
+-- The word has the nodes at or below i.
 use mathlib.Core.Bool.{Bool, ◌&&◌, ◌||◌}
 use mathlib.Core.Path.{ap, ◌∙◌}
 use lib.Dec.{eqb, ltb}

@@ -1,3 +1,4 @@
+-- The loop keeps that the links before i have their floor rates and all other places the least rate.
 use native.Mathlib.Omega.{arith}
 use mathlib.Core.Path.{◌≡◌}
 use Rattle.job.specs.Read.{tree_in}

@@ -1,3 +1,4 @@
+-- The three ways out are no child, one child, and more, of which the walk finds the second least need.
 use native.Mathlib.Omega.{arith}
 use mathlib.Core.Path.{◌≡◌, sym, ◌∙◌}
 use Rattle.job.specs.Read.{tree_in}

@@ -1,3 +1,4 @@
+-- The loop keeps the least of the start and of the numbers at the members left behind.
 use native.Mathlib.Omega.{arith}
 use Rattle.base.proofs.SetLaws.{first_lt}
 use Rattle.base.proofs.WalkLaws.{walk_start, walk_next, walk_done}

@@ -1,3 +1,4 @@
+-- The word has the nodes below the root, which are the links.
 use mathlib.Core.Path.{◌∙◌}
 use Rattle.job.specs.Read.{tree_in}
 use Rattle.rates.proofs.WalkLaws.{least_walk}

@@ -1,3 +1,4 @@
+-- Three ways out: the reader's refusal, a wrong length, and the work on an accepted job.
 use native.Mathlib.Omega.{arith}
 use mathlib.Core.Path.{◌≡◌, refl, ap, sym, ◌∙◌}
 use mathlib.Core.Logic.{inl}

@@ -1,3 +1,4 @@
+-- The loop keeps the two least of the start and of the numbers at the members left behind.
 use native.Mathlib.Omega.{arith}
 use mathlib.Core.Path.{ap}
 use Prim.Native.Nat.{ℕ}

@@ -1,3 +1,4 @@
+-- The sums are those of the job, and the places are as many as them.
 use native.Mathlib.Omega.{arith}
 use Rattle.job.proofs.SumsLaws.{with_sums}
 use Rattle.rates.proofs.with_rooms.Goals as goal

@@ -1,3 +1,4 @@
+-- The delay, the needs and the memories found are those defined; past the longest delay nothing is stored.
 use native.Mathlib.Omega.{arith}
 use mathlib.Core.Path.{◌≡◌, refl, ◌∙◌}
 use Prim.Native.Nat.{◌-◌}

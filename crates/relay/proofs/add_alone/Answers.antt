@@ -1,3 +1,4 @@
+-- The number's digits, then the line's end: two texts added one after the other are one (adds_more).
 use native.Mathlib.Omega.{arith}
 use Rattle.relay.proofs.TextLaws.{adds_more, adds_as, alone_text}
 use Rattle.relay.proofs.add_alone.Goals as goal

@@ -1,3 +1,4 @@
+-- One character is stored at the text's end (adds_store).
 use Rattle.relay.proofs.TextLaws.{adds_store}
 use Rattle.relay.proofs.add_byte.Goals as goal
 

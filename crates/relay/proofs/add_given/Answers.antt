@@ -1,3 +1,4 @@
+-- Five texts added one after the other make the line (given-text), each within its width.
 use native.Mathlib.Omega.{arith}
 use Rattle.relay.proofs.TextLaws.{adds_more, adds_as, given-text}
 use Rattle.relay.proofs.add_given.Goals as goal

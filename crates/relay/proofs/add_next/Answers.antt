@@ -1,3 +1,4 @@
+-- A space, then the digits: together a number after a space (spaced_one).
 use mathlib.Core.Path.{sym}
 use native.Mathlib.Omega.{arith}
 use Rattle.relay.proofs.TextLaws.{adds_more, adds_as, spaced_one}

@@ -1,3 +1,4 @@
+-- Four texts added one after the other make the line (node_text), each within its width.
 use native.Mathlib.Omega.{arith}
 use Rattle.relay.proofs.TextLaws.{adds_more, adds_as, node_text}
 use Rattle.relay.proofs.add_node.Goals as goal

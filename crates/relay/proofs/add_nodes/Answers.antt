@@ -1,3 +1,4 @@
+-- Before turn i the lines of nodes 1 to i are added, each within its room, and row i starts at i times the width.
 use mathlib.Core.Path.{◌≡◌, refl, ◌∙◌}
 use Prim.Native.Nat.{◌+◌, ◌*◌, ◌≤◌}
 use native.Mathlib.Omega.{arith}

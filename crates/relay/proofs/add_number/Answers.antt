@@ -1,3 +1,4 @@
+-- The digits at the start of the part from `at` on are added to the text before it (adds_part).
 use native.Mathlib.Omega.{arith}
 use Rattle.relay.proofs.TextLaws.{adds_part}
 use Rattle.relay.proofs.add_number.Goals as goal

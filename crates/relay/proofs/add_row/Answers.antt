@@ -1,3 +1,4 @@
+-- Before turn k the first k numbers are added, each within its width.
 use mathlib.Core.Path.{◌≡◌, refl, ◌∙◌, sym}
 use native.Mathlib.Omega.{arith}
 use lib.Seq.{take_all}

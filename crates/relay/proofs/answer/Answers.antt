@@ -1,3 +1,4 @@
+-- Each early return is a case of `job_refusal`; past the last, the job is accepted and its plan fits, so that both are asked.
 use mathlib.Core.Path.{◌≡◌, ap, ◌∙◌}
 use mathlib.Core.List.{[]}
 use Prim.Native.Nat.{ℕ, ◌-◌}

@@ -1,3 +1,4 @@
+-- The two parts have room together (room-enough), and the second is added after the first (both_added).
 use native.Mathlib.Omega.{arith}
 use Rattle.relay.proofs.PrintedLaws.{room-enough, both_added}
 use Rattle.relay.proofs.both.Goals as goal

@@ -1,3 +1,4 @@
+-- As many of the last digits as there are digits at all are the digits (digits-put).
 use native.Mathlib.Omega.{arith}
 use Rattle.relay.proofs.DecimalLaws.{digits-put}
 use Rattle.relay.proofs.decimal.Goals as goal

@@ -1,3 +1,4 @@
+-- A refusal is its line. Where a plan is given, its rows have slots 0 to `last`, which is H, so that they fill it and their lines fit.
 use mathlib.Core.Path.{◌∙◌}
 use native.Mathlib.Omega.{arith}
 use lib.ListN.{length}

@@ -1,3 +1,4 @@
+-- The loop keeps that k and the digits of `rest` together are one more than those of n, which has at most 20.
 use native.Mathlib.Omega.{arith}
 use Rattle.relay.proofs.DecimalLaws.{length_more, length-small, length_most}
 use Rattle.relay.proofs.places.Goals as goal

@@ -1,3 +1,4 @@
+-- In both cases of the answer its line is added, and the answer's contract is handed on.
 use mathlib.Core.Path.{refl}
 use native.Mathlib.Omega.{arith}
 use Rattle.relay.specs.Text.{rate_text}

@@ -1,3 +1,4 @@
+-- The loop keeps that `count` is within the buffer; a turn that reads nothing ends it.
 use native.Mathlib.Omega.{arith}
 use Rattle.io.proofs.Counting.{prefix_len_of_le}
 use Rattle.relay.proofs.read_job.Goals as goal

@@ -1,3 +1,4 @@
+-- Going down, the last i digits of `rest` before what is stored from i on are the last digits of n.
 use mathlib.Core.Path.{◌≡◌, refl, ◌∙◌}
 use mathlib.Core.List.{append-nil}
 use Prim.Native.Nat.{◌-◌, ◌%◌}

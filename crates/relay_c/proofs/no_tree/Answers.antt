@@ -1,3 +1,4 @@
+-- The first of 1 to 10 where one applies, else 11: the two cases of `or_else`.
 use mathlib.Core.Path.{refl}
 use Rattle.job.proofs.RefusalLaws.{or_else-first, or_else_second}
 use Rattle.relay_c.proofs.no_tree.Goals as goal

@@ -1,3 +1,4 @@
+-- In both cases of the answer its numbers are returned, and the answer's contract is handed on.
 use mathlib.Core.Path.{refl}
 use Rattle.relay_c.proofs.relay_memory_question.Goals as goal
 

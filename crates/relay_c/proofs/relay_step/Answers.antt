@@ -1,3 +1,4 @@
+-- Lent another length it is the refusal of no_tree; else the contract of the step from the tree that the numbers say is handed on.
 use mathlib.Core.Path.{refl}
 use Rattle.relay_c.proofs.relay_step.Goals as goal
 

@@ -1,3 +1,4 @@
+-- Each case of the outcome has its numbers.
 use mathlib.Core.Path.{refl}
 use Rattle.relay_c.proofs.step_answer.Goals as goal
 

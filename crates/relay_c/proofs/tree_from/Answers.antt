@@ -1,3 +1,4 @@
+-- The loop keeps that nodes below i carry the numbers from place 1 on.
 use native.Mathlib.Omega.{arith}
 use lib.ListN.{length, get_or, replicate}
 use Rattle.base.proofs.TableLaws.{filled_none, filled_more, filled-done}

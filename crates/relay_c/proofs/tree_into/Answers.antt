@@ -1,3 +1,4 @@
+-- The slot is stored first; the loop keeps that places up to i hold the tree's numbers.
 use native.Mathlib.Omega.{arith}
 use mathlib.Core.List.{List, [], ◌∷◌}
 use mathlib.Core.Path.{◌≡◌, refl, ◌∙◌}

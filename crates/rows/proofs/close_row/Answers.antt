@@ -1,3 +1,4 @@
+-- The copy is the row of u, the part handed on is that of v, and what comes back is put into the plan.
 use Prim.Native.Nat.{◌+◌, ◌-◌, ◌*◌, ◌≤◌, max}
 use mathlib.Core.Path.{refl, ◌∙◌}
 use native.Mathlib.Nat.{mul-le-mul_right}

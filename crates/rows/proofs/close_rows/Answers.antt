@@ -1,3 +1,4 @@
+-- The pass up keeps the length that the pass down asks for; closing is both.
 use mathlib.Core.Path.{◌∙◌}
 use Rattle.rows.specs.Closing.{tree_from, slot_in}
 use Rattle.rows.proofs.ClosingLaws.{close_is}

@@ -1,3 +1,4 @@
+-- The loop has copied the places before k.
 use mathlib.Core.Path.{refl, sym, ◌∙◌}
 use lib.ListN.{length}
 use Rattle.base.proofs.TableLaws.{filled_none, filled_more, filled-done, tab_of_list}

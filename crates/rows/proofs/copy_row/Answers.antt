@@ -1,3 +1,4 @@
+-- The root has zeros; any other row is the part of the plan that is copied.
 use Prim.Native.Nat.{◌+◌, ◌-◌, ◌*◌, ◌≤◌}
 use mathlib.Core.Path.{refl, ◌∙◌}
 use lib.ListN.{length}

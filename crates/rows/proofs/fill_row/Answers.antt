@@ -1,3 +1,4 @@
+-- The loop has filled the places before k.
 use Rattle.base.proofs.TableLaws.{filled_none, filled_more, filled-done}
 use native.Mathlib.Omega.{arith}
 use Rattle.rows.proofs.fill_row.Goals as goal

@@ -1,3 +1,4 @@
+-- The raised row is the closed one where the row and the copy are what its turn hands on (`finished`).
 use mathlib.Core.Path.{◌∙◌}
 use Rattle.rows.proofs.ClosingLaws.{finished}
 use Rattle.rows.proofs.finish_row.Goals as goal

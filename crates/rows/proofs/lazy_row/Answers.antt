@@ -1,3 +1,4 @@
+-- The loop has filled the row from slot k to its end, and keeps the lazy value at k.
 use Prim.Native.Nat.{◌-◌}
 use mathlib.Core.Path.{◌≡◌, ◌∙◌}
 use lib.ListN.{length}

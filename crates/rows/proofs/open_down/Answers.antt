@@ -1,3 +1,4 @@
+-- The loop keeps that the turns done are those of the links before v; in a turn a row is capped by its parent's.
 use Prim.Native.Nat.{◌+◌, ◌-◌, ◌*◌, ◌≤◌, min}
 use mathlib.Core.Path.{◌≡◌, refl, ◌∙◌}
 use mathlib.Core.Logic.{inr}

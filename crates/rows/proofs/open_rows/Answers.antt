@@ -1,3 +1,4 @@
+-- The pass up keeps the length and the range that the pass down asks for; opening is both.
 use mathlib.Core.Path.{◌∙◌}
 use Rattle.rows.specs.Closing.{tree_from, slot_in}
 use Rattle.rows.proofs.OpeningLaws.{open_is}

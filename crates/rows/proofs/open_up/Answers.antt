@@ -1,3 +1,4 @@
+-- The loop keeps that the turns to come give what the whole pass gives; in a turn a row is capped by its child's.
 use Prim.Native.Nat.{◌+◌, ◌-◌, ◌*◌, ◌≤◌, ◌<◌}
 use mathlib.Core.Path.{refl, sym, ◌∙◌}
 use mathlib.Core.Logic.{inl}

@@ -1,3 +1,4 @@
+-- The loop keeps that the state is the pass over the first k of the slots that it looks at, and that `at` is the last of them.
 use Prim.Native.Nat.{◌+◌, ◌-◌, ◌*◌, ◌/◌, ◌≤◌}
 use mathlib.Core.Path.{◌≡◌, ap}
 use native.Mathlib.Nat.{mul-le-mul, mul-le-mul_left, div-eq_of_lt-le}

@@ -1,3 +1,4 @@
+-- The loop keeps that the turns done are those of the links before v, and that the copy is of the last one's parent.
 use Prim.Native.Nat.{◌+◌, ◌-◌, ◌*◌, ◌≤◌, ◌<◌}
 use mathlib.Core.Path.{◌≡◌, refl, sym, ◌∙◌}
 use native.Mathlib.Nat.{mul-le-mul_right}

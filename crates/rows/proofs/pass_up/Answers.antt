@@ -1,3 +1,4 @@
+-- The loop keeps that the turns to come give what the whole pass gives; in a turn a row is raised to its child's.
 use Prim.Native.Nat.{◌+◌, ◌-◌, ◌*◌, ◌≤◌, max}
 use mathlib.Core.Path.{refl, sym, ◌∙◌}
 use lib.ListN.{length, get_or}

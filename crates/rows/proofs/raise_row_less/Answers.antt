@@ -1,3 +1,4 @@
+-- The loop has raised the places before k.
 use Prim.Native.Nat.{ℕ, ◌-◌, max}
 use mathlib.Core.Path.{◌≡◌, ap, ◌∙◌}
 use Rattle.rows.specs.Row.{row_in}

@@ -1,3 +1,4 @@
+-- The loop has raised the slots of the row before k; the other row is as it was.
 use Prim.Native.Nat.{ℕ, ◌+◌, max}
 use mathlib.Core.Path.{◌≡◌, refl, ap₂, ◌∙◌}
 use lib.ListN.{get_or, length-set}

@@ -1,3 +1,5 @@
+-- The loop keeps that the peak is not above the least and that the state is the pass at it; each step goes up, and with no excess over
+-- every slot it is the least.
 use Prim.Native.Nat.{◌+◌, ◌-◌, ◌*◌, ◌≤◌, ◌<◌}
 use lib.ListN.{length}
 use Rattle.smoothing.specs.Row.{least_peak}

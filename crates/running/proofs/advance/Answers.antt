@@ -1,3 +1,4 @@
+-- The column read is the one that a step takes; then either the first breach found is the answer, or the rows are filled.
 use mathlib.Core.Path.{◌≡◌, refl, ap, ap₂, sym, ◌∙◌}
 use Prim.Native.Nat.{ℕ, ◌+◌, ◌-◌, ◌*◌, ◌≤◌}
 use native.Mathlib.Numerals.{add-one}

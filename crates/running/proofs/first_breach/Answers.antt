@@ -1,3 +1,4 @@
+-- The loop keeps that no link below i breaks a rule.
 use mathlib.Core.Path.{sym, ◌∙◌}
 use mathlib.Core.Logic.{⊎_elim}
 use Rattle.base.proofs.BoolLaws.{last_or_below}

@@ -1,3 +1,4 @@
+-- The set of leaves says whether node i is one: then its held bytes are S less what it has played, else its lead.
 use mathlib.Core.Path.{refl, sym, ◌∙◌}
 use lib.ListN.{get_or}
 use Rattle.running.specs.Work.{held}

@@ -1,3 +1,4 @@
+-- The loop keeps that each node has its lead over its children below i.
 use Prim.Native.Nat.{◌<◌}
 use Rattle.base.specs.Range.{first}
 use Rattle.base.specs.Set.{has, word_bits}

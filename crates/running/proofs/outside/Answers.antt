@@ -1,3 +1,4 @@
+-- Each of the two tests is an arithmetic fact of the branch taken; the second needs no sum, by `room_less`.
 use borrow.Author.Tests.{lt-ltb, le-ltb}
 use Rattle.running.proofs.TestLaws.{room_less}
 use native.Mathlib.Omega.{arith}

@@ -1,3 +1,4 @@
+-- The loop fills both rows from the front; the leads are known before it, so each turn reads that of its node.
 use mathlib.Core.Path.{ap, ◌∙◌}
 use Prim.Native.Nat.{suc, ◌+◌, ◌-◌, ◌≤◌, ◌<◌}
 use native.Mathlib.Numerals.{add-one}

@@ -1,3 +1,4 @@
+-- The loop keeps that the links below i have the plan's numbers at slot k and that `at` is the place of link i's.
 use mathlib.Core.Path.{◌≡◌, refl}
 use Prim.Native.Nat.{ℕ, zero, suc, ◌+◌, ◌-◌, ◌*◌, ◌≤◌, ◌<◌}
 use native.Mathlib.Nat.{suc-mul, mul-le-mul}

@@ -1,3 +1,4 @@
+-- Each room has place for the film's sums, so the work on them is the work on the job.
 use native.Mathlib.Omega.{arith}
 use Rattle.job.proofs.SumsLaws.{with_sums}
 use Rattle.running.proofs.with_job.Goals as goal

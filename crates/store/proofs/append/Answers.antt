@@ -1,3 +1,4 @@
+-- Where the number is 0, `Appendable` gives each call what it requires and the store that is built is `appended`; else nothing is touched.
 use native.Mathlib.Omega.{arith}
 use mathlib.Core.Path.{◌≡◌, sym, ◌∙◌}
 use Prim.Native.Nat.{◌+◌}

@@ -1,3 +1,4 @@
+-- Each early return is a row of `append_number`; past the third, a count above m - n is left to find, which is that n is more than is free.
 use native.Mathlib.Omega.{arith}
 use mathlib.Core.Bool.{true, false, cond}
 use Prim.Native.Nat.{◌-◌}

@@ -1,3 +1,4 @@
+-- Both cases by the law of `back` there: m - (n - p) is p + m - n where p is below n.
 use native.Mathlib.Omega.{arith}
 use Rattle.store.proofs.RoundLaws.{back_near, back_round}
 use Rattle.store.proofs.back.Goals as goal

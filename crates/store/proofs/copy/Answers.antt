@@ -1,3 +1,4 @@
+-- The loop keeps that places below i hold the source's bytes; the rest are as lent.
 use native.Mathlib.Omega.{arith}
 use mathlib.Core.Path.{sym, ◌∙◌}
 use lib.ListN.{get_or}

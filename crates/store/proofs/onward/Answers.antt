@@ -1,3 +1,4 @@
+-- Both cases by the law of `onward` there: p + n is below m just where n is below m - p.
 use native.Mathlib.Omega.{arith}
 use mathlib.Core.Path.{sym}
 use Rattle.store.proofs.RoundLaws.{onward_near, onward_round}

@@ -1,3 +1,4 @@
+-- The three ways out are the cases of `place_wrong`: place 0, no child, and the place against the slice's end.
 use mathlib.Core.Bool.{not}
 use mathlib.Core.Path.{◌≡◌}
 use mathlib.Core.Logic.{◌⊎◌, inl, inr}

@@ -1,3 +1,4 @@
+-- The loop keeps that counts below c are raised; the rest are as lent, so that what is required of the next one still says that it fits.
 use mathlib.Core.Path.{◌≡◌}
 use Prim.Native.Nat.{◌+◌}
 use lib.ListN.{get_or}

@@ -1,3 +1,4 @@
+-- The first copy reads up to the slice's end, the second from its start; together they are the bytes from the place on (read_stretches).
 use Rattle.store.proofs.StretchLaws.{read_stretches}
 use Rattle.store.proofs.read_round.Goals as goal
 

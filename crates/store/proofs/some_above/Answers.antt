@@ -1,3 +1,4 @@
+-- The loop keeps that no count before i is above `most`; a return from within it has found one.
 use mathlib.Core.Path.{sym}
 use mathlib.Core.Logic.{⊎_elim}
 use borrow.Author.Tests.{lt-ltb, le-ltb}

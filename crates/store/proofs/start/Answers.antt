@@ -1,3 +1,4 @@
+-- One test, and each way out is its case of `Starts`.
 use mathlib.Core.Path.{refl}
 use borrow.Author.Tests.{lt-ltb, le-ltb}
 use Rattle.base.specs.Table.{tab}

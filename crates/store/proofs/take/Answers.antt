@@ -1,3 +1,4 @@
+-- Where the number is 0, `Takeable` gives each call what it requires, and what is read round the end is what waits first (take_round).
 use native.Mathlib.Omega.{arith}
 use mathlib.Core.Path.{sym, ◌∙◌}
 use Prim.Native.Nat.{◌<◌}

@@ -1,3 +1,4 @@
+-- Each early return is a row of `take_number`; past the second, the child is one of the store's and has a count.
 use native.Mathlib.Omega.{arith}
 use mathlib.Core.Bool.{true, false, cond, not}
 use Prim.Native.Nat.{◌<◌}

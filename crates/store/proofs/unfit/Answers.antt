@@ -1,3 +1,4 @@
+-- The early returns are the parts of `unfit` in order; past the third, the two looks at the counts are one over all (counts_are).
 use native.Mathlib.Omega.{arith}
 use mathlib.Core.Path.{◌≡◌, sym, ◌∙◌}
 use Rattle.base.specs.Range.{some}

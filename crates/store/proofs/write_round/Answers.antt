@@ -1,3 +1,4 @@
+-- The first copy writes up to the slice's end, the second from its start; together that is `written` (write_stretches).
 use Rattle.store.proofs.StretchLaws.{write_stretches}
 use Rattle.store.proofs.write_round.Goals as goal
 

@@ -1,3 +1,4 @@
+-- The loop keeps that i is within the peaks.
 use Rattle.std.proofs.Common.{◌≤◌, ◌-◌, length}
 use Rattle.trial.proofs.show_nodes.Given as goal
 

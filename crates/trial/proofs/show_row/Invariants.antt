@@ -1,3 +1,4 @@
+-- The loop keeps that k is within the row.
 use Rattle.std.proofs.Common.{◌≤◌, ◌-◌, length}
 use Rattle.trial.proofs.show_row.Given as goal
 

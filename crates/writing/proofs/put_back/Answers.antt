@@ -1,3 +1,4 @@
+-- Each test answers one check of the refusal; past all of them the answer is put back, and the laws say what the bytes then are.
 use mathlib.Core.Path.{◌≡◌, ap, sym, ◌∙◌}
 use Prim.Native.Nat.{ℕ, ◌-◌}
 use native.Mathlib.Omega.{arith}

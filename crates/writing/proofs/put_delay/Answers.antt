@@ -1,3 +1,4 @@
+-- A leaf's delay is written, an inner node's isn't.
 use mathlib.Core.Path.{refl, ◌∙◌}
 use Rattle.writing.proofs.put_delay.Goals as goal
 

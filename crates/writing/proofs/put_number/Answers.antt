@@ -1,3 +1,4 @@
+-- The loop keeps that the rest written below i gives the whole number written: the last byte may be written first.
 use mathlib.Core.Path.{◌≡◌, ◌∙◌}
 use Prim.Native.Nat.{◌+◌, ◌-◌}
 use native.Mathlib.Omega.{arith}

@@ -1,3 +1,4 @@
+-- Delay and memory are written one after the other, each at its place.
 use mathlib.Core.Path.{refl, ◌∙◌}
 use Rattle.writing.proofs.put_record.Goals as goal
 

@@ -1,3 +1,4 @@
+-- The loop keeps that the records of the nodes below i are written; each node's is one step of the fold.
 use mathlib.Core.Path.{◌≡◌, refl, ap, sym, ◌∙◌}
 use mathlib.Core.List.{List}
 use Prim.Native.Nat.{ℕ}

@@ -1,3 +1,4 @@
+-- The loop keeps that no number below k is too large.
 use mathlib.Core.Path.{◌≡◌, refl, sym}
 use native.Mathlib.Numerals.{add-one}
 use native.Mathlib.Omega.{arith}

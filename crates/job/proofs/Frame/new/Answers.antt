@@ -1,3 +1,4 @@
+-- The test is the check.
 use borrow.Author.Tests.{lt-ltb, le-ltb}
 use Rattle.job.proofs.Frame.new.Goals as goal
 

@@ -1,3 +1,4 @@
+-- The loop keeps that the set has the nodes below i that are below a: a parent is lower than its child, so its answer is known.
 use mathlib.Core.Path.{◌≡◌, refl, sym, ◌∙◌}
 use Prim.Native.Nat.{◌<◌}
 use native.Mathlib.Omega.{arith}

@@ -1,3 +1,4 @@
+-- The loop keeps that the set has the children of a among the nodes below i.
 use mathlib.Core.Path.{◌≡◌, ◌∙◌}
 use native.Mathlib.Omega.{arith}
 use lib.Dec.{eqb}

@@ -1,3 +1,4 @@
+-- The loop keeps that the set has the parents of the nodes below i, as far as a word reaches.
 use mathlib.Core.Path.{◌≡◌, refl, ap, sym, ◌∙◌}
 use mathlib.Core.Bool.{Bool, ◌&&◌}
 use native.Mathlib.Omega.{arith}

@@ -1,3 +1,4 @@
+-- The greatest delay over the set of leaves is the greatest leaf delay.
 use mathlib.Core.Path.{◌≡◌, refl, ◌∙◌}
 use native.Mathlib.Omega.{arith}
 use Rattle.job.proofs.SlotLaws.{greatest_delay_le, greatest_delay-set}

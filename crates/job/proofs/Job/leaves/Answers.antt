@@ -1,3 +1,4 @@
+-- The loop keeps that the set has the nodes below i that are not in the set of parents.
 use mathlib.Core.Logic.{⊎_elim}
 use mathlib.Core.Path.{◌≡◌, refl, ap, ◌∙◌}
 use mathlib.Core.Bool.{not}

@@ -1,3 +1,4 @@
+-- By the members: leaves that are in the set of what is below a, with a itself.
 use mathlib.Core.Path.{◌∙◌}
 use Rattle.job.specs.Read.{tree_in}
 use Rattle.job.proofs.TreeLaws.{at_word}

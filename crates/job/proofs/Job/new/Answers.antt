@@ -1,3 +1,4 @@
+-- Each test answers one side of a bound; past it that side holds.
 use mathlib.Core.Path.{◌∙◌}
 use borrow.Author.Tests.{lt-ltb, le-ltb}
 use Rattle.job.proofs.Job.new.Goals as goal

@@ -1,3 +1,4 @@
+-- Each constant is its number, by computation.
 use mathlib.Core.Path.{refl}
 use Rattle.job.proofs.Limits.all.Goals as goal
 

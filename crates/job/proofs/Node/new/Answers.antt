@@ -1,3 +1,4 @@
+-- Each test answers one row; past it that row doesn't apply, so the chain goes on to the next.
 use mathlib.Core.Path.{sym, ◌∙◌}
 use borrow.Author.Tests.{lt-ltb, le-ltb}
 use Rattle.job.proofs.Node.new.Goals as goal

@@ -1,3 +1,4 @@
+-- Each number of the state is what the look of `smoothing` makes of it.
 use Rattle.rows.proofs.SearchLaws.{look_is}
 use Rattle.rows.specs.Search.{search_in}
 use Rattle.rows.proofs.Search.look.Goals as goal

@@ -1,3 +1,5 @@
+-- Each test in turn: past the first the job is accepted, past the lengths none of 1 to 11 applies, and with slots left the work on the job
+-- is the step.
 use mathlib.Core.Path.{◌≡◌, refl, ap, sym, ◌∙◌}
 use mathlib.Core.Logic.{inl}
 use Prim.Native.Nat.{ℕ, ◌+◌, ◌-◌, ◌*◌}

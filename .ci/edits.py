@@ -20,7 +20,7 @@ WORTHLESS = [
     (re.compile(REFUSED + r" \(only by a limit"), "the prover stopped at a limit"),
     (re.compile(REFUSED + r": (?:\./)?(?:src|specs)/[^\s:]*:\d+:\d+: error"), "the edited file itself is refused"),
 ]
-BY_A_FACT = re.compile(REFUSED + r": (?:(?:\./)?proofs/[^\s:]*:\d+:\d+: error|note: )")
+BY_A_FACT = re.compile(REFUSED + r": (?:(?:\./)?proofs/[^\s:]*:\d+:\d+: error|note: [^:]+:\d+:\d+: it is not proved)")
 # Whatever rt tells of an edit, at most six lines of what was said to it below its own.
 LINES = r"^rt: must-fail {}: (.*(?:\n(?!rt: ).*){{0,6}})"
 COUNT = re.compile(r"^rt: ok; .*; must-fail edits: (\d+) refused(?:, \d+ of them only by a limit)?(?:, (\d+) bad)?; ", re.M)

@@ -120,7 +120,7 @@ class Product:
             raise Problem(f"{self.what} must be built first, and rt, Rattle's command, is not on the PATH")
         with contextlib.suppress(FileNotFoundError):
             os.unlink(self.mark)
-        for crate in needed(self.built.crate):  # rt makes them where they are missing, which makes the crates' folders newer.
+        for crate in os.listdir(CRATES):  # rt makes them where they are missing, which makes the crates' folders newer.
             with contextlib.suppress(OSError):
                 os.mkdir(out_of(crate))
         with open(self.log, "wb") as log:

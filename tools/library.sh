@@ -13,6 +13,9 @@ library_is_current() {
 # Proves and builds the library where it must, which takes some minutes. What that prints goes to standard error.
 make_library() {
     library_is_current || {
+        for crate in "$root"/crates/*/; do
+            mkdir -p "${crate}out" # rt would make them, and the crates' folders newer
+        done
         (cd "$root/crates/relay_c" && rt lib) >&2 && mkdir -p "${library%/*}" &&
             cp "$root/crates/relay_c/out/librelay_c.a" "$library.$$" && mv -f "$library.$$" "$library"
     }

@@ -32,7 +32,7 @@ def snake(part):
         return OF_KIT[part]
     if not CAMEL.match(part):
         return part
-    return re.sub(r"(?<=[a-z0-9])([A-Z])", lambda m: "_" + m[1].lower(), part)
+    return re.sub(r"(?<=[a-z0-9])([A-Z]+)", lambda m: "_" + m[1].lower(), part)
 
 
 def fields_of(text):

@@ -143,7 +143,7 @@ module _ (t : Tree) (w : TreeWithin t) (sums : List ℕ) (v : ℕ) (link : Link 
 
 -- ---- a leaf's lower curve from its parent's
 
-module _ (t : Tree) (w : TreeWithin t) (T : ℕ → ℕ) (i k : ℕ) (is_Is_leaf : leaf t i ≡ true) (link : Link t.n i) (inner : t.parent i ≢ 0) where
+module _ (t : Tree) (w : TreeWithin t) (T : ℕ → ℕ) (i k : ℕ) (is_leaf : leaf t i ≡ true) (link : Link t.n i) (inner : t.parent i ≢ 0) where
   pub leaf-lower_is : leaf_lower (T (k - t.delay i)) (lower_curve t T (t.parent i) k) (t.memory (t.parent i)) ≡ lower_curve t T i k
   unfolding leaf_lower
-  leaf-lower_is = omega (arith, lower-step t w T i k link inner, D-leaf t w T i k is_Is_leaf)
+  leaf-lower_is = omega (arith, lower-step t w T i k link inner, D-leaf t w T i k is_leaf)

@@ -13,7 +13,7 @@ use Rattle.base.proofs.BoolLaws.{true_or_false, not_both, or_no_left, or_no_righ
 use Rattle.base.proofs.RangeLaws.{none_passes}
 use Rattle.job.specs.Limits.{fewest_nodes, most_nodes, fewest_frames, most_frames, longest_delay, greatest_memory, greatest_rate, greatest_frame}
 use Rattle.job.specs.Tree.{Tree, TreeWithin, JobWithin, link, child, has_child, leaf}
-use Rattle.job.specs.Bytes.{mark_rLY, version_one, header_width, mark, version, node_count, frame_count, frame_at, wanted_length, tree_of, job_of}
+use Rattle.job.specs.Bytes.{mark_rly, version_one, header_width, mark, version, node_count, frame_count, frame_at, wanted_length, tree_of, job_of}
 use Rattle.job.specs.Refusal.{outside, parent_wrong, delay_wrong, amount_wrong, frame_wrong, some_node, refusal}
 use Rattle.job.specs.Read.{Accepted, struct_of, refused_with, refused_or, read_of, tree_in, size_refusal}
 use Rattle.job.specs.Steps.{parents_of, or_else, head_refusal, nodes_refusal, rest_refusal, Sized}
@@ -61,7 +61,7 @@ refusal_parts s =
     let t = tree_of s in
     parts
     (ltb (length s) header_width)
-    (not (eqb (mark s) mark_rLY))
+    (not (eqb (mark s) mark_rly))
     (not (eqb (version s) version_one))
     (outside fewest_nodes most_nodes (node_count s))
     (outside fewest_frames most_frames (frame_count s))

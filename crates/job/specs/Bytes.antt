@@ -4,8 +4,8 @@ use Rattle.base.specs.Number.{number}
 use Rattle.job.specs.Tree.{Tree, JobData, link}
 
 -- the mark is the bytes R, L, Y; the version is 1
-abbrev pub mark_rLY : ℕ
-mark_rLY = 0x524c59
+abbrev pub mark_rly : ℕ
+mark_rly = 0x524c59
 
 abbrev pub version_one : ℕ
 version_one = 1

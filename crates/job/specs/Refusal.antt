@@ -3,7 +3,7 @@ use Rattle.std.specs.Prelude.{Bool, cond, not, ◌&&◌, ◌||◌, List, ℕ, lt
 use Rattle.base.specs.Range.{some}
 use Rattle.job.specs.Limits.{fewest_nodes, most_nodes, fewest_frames, most_frames, longest_delay, greatest_memory, greatest_rate, greatest_frame}
 use Rattle.job.specs.Tree.{Tree, link, leaf}
-use Rattle.job.specs.Bytes.{mark_rLY, version_one, header_width, mark, version, node_count, frame_count, wanted_length, tree_of, frame_at}
+use Rattle.job.specs.Bytes.{mark_rly, version_one, header_width, mark, version, node_count, frame_count, wanted_length, tree_of, frame_at}
 
 -- ---- the numbers of the table, each by the name that src/ has for it as a constant of what it refuses
 
@@ -71,7 +71,7 @@ unfoldable pub refusal : List ℕ → ℕ
 refusal s =
     let t = tree_of s in
     cond (ltb (length s) header_width) short
-    (cond (not (eqb (mark s) mark_rLY)) bad_mark
+    (cond (not (eqb (mark s) mark_rly)) bad_mark
     (cond (not (eqb (version s) version_one)) bad_version
     (cond (outside fewest_nodes most_nodes (node_count s)) bad_nodes
     (cond (outside fewest_frames most_frames (frame_count s)) bad_frames

@@ -4,7 +4,7 @@ use Rattle.base.specs.Range.{some}
 use Rattle.base.specs.Set.{has, word_bits}
 use Rattle.job.specs.Limits.{fewest_nodes, most_nodes, fewest_frames, most_frames}
 use Rattle.job.specs.Tree.{Tree, has_child, leaf}
-use Rattle.job.specs.Bytes.{mark, version, mark_rLY, version_one, header_width, node_count, frame_count, parent_at, delay_at, memory_at, rate_at, frame_at, wanted_length, per_node, tree_of}
+use Rattle.job.specs.Bytes.{mark, version, mark_rly, version_one, header_width, node_count, frame_count, parent_at, delay_at, memory_at, rate_at, frame_at, wanted_length, per_node, tree_of}
 use Rattle.job.specs.Refusal.{short, bad_mark, bad_version, bad_parent, bad_delay, large_memory, large_frame, parent_wrong, delay_wrong, amount_wrong, frame_wrong, some_node}
 use Rattle.job.specs.Read.{struct_of, bare_tree}
 use Rattle.job.specs.declared.Job.{Job}
@@ -51,7 +51,7 @@ sooner a b = cond (eqb a 0) b (cond (eqb b 0) a (min a b))
 abbrev pub head_refusal : List ℕ → ℕ
 head_refusal s =
     cond (ltb (length s) header_width) short
-    (cond (not (eqb (mark s) mark_rLY)) bad_mark
+    (cond (not (eqb (mark s) mark_rly)) bad_mark
     (cond (not (eqb (version s) version_one)) bad_version
     0))
 

@@ -129,10 +129,10 @@ module _ (s : List ℕ) (job : Job) (acc : Accepted s job) where
     pub answered : (answer : Answer) → Worked answer job sums (width_of job) plan₀ plan₁ peaks₀ peaks₁ → Answers answer s plan₀ plan₁ peaks₀ peaks₁
     unfolding Worked Answers
     answered (Refused e) w =
-        let (i, is_Is_leaf, k, h, crosses) =
+        let (i, is_leaf, k, h, crosses) =
         starves_at (tree_in job) j.tree (sums_in sums) (T j) (last_in sums) (T j j.M) (width_of job) (H j + 1) acc.held (sums_of_lem j) (last_of j) width_is w.1.0 in (
           w.1.1.0,
-          (w.1.1.1, inr (none_early, (w.0, no_plan_lem j acc.within i (leaf-link j.tree acc.within.tree i is_Is_leaf) k (omega arith) crosses))),
+          (w.1.1.1, inr (none_early, (w.0, no_plan_lem j acc.within i (leaf-link j.tree acc.within.tree i is_leaf) k (omega arith) crosses))),
         )
     answered (Planned last total) w =
         let fed = fed_at (tree_in job) j.tree (sums_in sums) (T j) (last_in sums) (T j j.M) (width_of job) (H j + 1) acc.held (sums_of_lem j) (last_of j) width_is w.1.1.0 in

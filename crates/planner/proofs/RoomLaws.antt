@@ -48,7 +48,7 @@ module _ (t : Tree) (within : TreeWithin t) (T : ℕ → ℕ) where
 
   -- ---- what the row of its parent says of a leaf
 
-  module _ (i w : ℕ) (is_Is_leaf : leaf t i ≡ true) (inner : t.parent i ≢ 0) (l : List ℕ) (is-lower : l ≡ tab (lower_curve t T (t.parent i)) w) where
+  module _ (i w : ℕ) (is_leaf : leaf t i ≡ true) (inner : t.parent i ≢ 0) (l : List ℕ) (is-lower : l ≡ tab (lower_curve t T (t.parent i)) w) where
     abbrev lower_at : ℕ → ℕ
     lower_at k = leaf_lower (T (k - t.delay i)) (get_or l k 0) (t.memory (t.parent i))
 
@@ -57,13 +57,13 @@ module _ (t : Tree) (within : TreeWithin t) (T : ℕ → ℕ) where
 
     lower_cell : (k : ℕ) → k < w → lower_at k ≡ lower_curve t T i k
     lower_cell k h =
-        rw (ap (λ (x : List ℕ). get_or x k 0) is-lower ∙ get_or-tab (lower_curve t T (t.parent i)) w k h) (leaf-lower_is t within T i k is_Is_leaf (linked i is_Is_leaf) inner)
+        rw (ap (λ (x : List ℕ). get_or x k 0) is-lower ∙ get_or-tab (lower_curve t T (t.parent i)) w k h) (leaf-lower_is t within T i k is_leaf (linked i is_leaf) inner)
 
     pub in_room_by_row : ((k : ℕ) → k < w → lower_at k ≤ room_at k) → InRoom t T w i
-    in_room_by_row fine k h = omega (arith, fine k h, lower_cell k h, D-leaf t within T i k is_Is_leaf)
+    in_room_by_row fine k h = omega (arith, fine k h, lower_cell k h, D-leaf t within T i k is_leaf)
 
     pub starved_by_row : (top k : ℕ) → k < w → room_at k < lower_at k → Starves t T top w
-    starved_by_row top k h crosses = (i, is_Is_leaf, k, h, omega (arith, lower_cell k h, D-leaf t within T i k is_Is_leaf, upper_in_room top i k is_Is_leaf))
+    starved_by_row top k h crosses = (i, is_leaf, k, h, omega (arith, lower_cell k h, D-leaf t within T i k is_leaf, upper_in_room top i k is_leaf))
 
   -- ---- what the leaves' own room says of all nodes
 

@@ -7,9 +7,9 @@ use Rattle.curves.proofs.roof_row.Goals as goal
 pub returns-then-member : goal.returns-then-member
 unfolding last_in
 returns-then-member c =
-    let is_Is_leaf = sym (c.leaves.ensures c.args.v) ∙ sym c.member.ensures ∙ c.if-member.true in
+    let is_leaf = sym (c.leaves.ensures c.args.v) ∙ sym c.member.ensures ∙ c.if-member.true in
     let fill-row = c.fill_row.ensures in
-    c.lower_by_leaf.ensures ∙ rw fill-row (roof-leaf _ c.requires.0.tree _ _ _ _ is_Is_leaf)
+    c.lower_by_leaf.ensures ∙ rw fill-row (roof-leaf _ c.requires.0.tree _ _ _ _ is_leaf)
 
 pub returns-else-member : goal.returns-else-member
 unfolding last_in

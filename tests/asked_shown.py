@@ -2,6 +2,7 @@
 import datetime
 import hashlib
 import itertools
+import multiprocessing
 import os
 import pty
 import random
@@ -123,8 +124,8 @@ def test_table_killed(folder):
         shutil.copy(LISTING, folder / f"{k}.job")
 
     def replace(number, to):
-        own = os.getpid()
-        library.plan = lambda data: os.kill(own if to == "own" else os.getpid(), number) or signal.pause()
+        own, sent = os.getpid(), multiprocessing.Lock()  # One signal: the command's end is no place for a second.
+        library.plan = lambda data: sent.acquire(block=False) and os.kill(own if to == "own" else os.getpid(), number) or signal.pause()
 
     for number, to, what in ((signal.SIGKILL, "other", "ended early"), (signal.SIGTERM, "own", "interrupted")):
         found = call("table", folder, "--out", folder / "o.csv", before=on_cores(2, lambda number=number, to=to: replace(number, to)))

@@ -1,11 +1,11 @@
 -- The definitions computed on small inputs.
 use mathlib.Core.Bool.{true, false}
-use mathlib.Core.List.{[], ◌∷◌, ◌++◌}
+use mathlib.Core.List.{[], ◌∷◌}
 use mathlib.Core.Path.{◌≡◌, refl}
 use Prim.Native.Nat.{◌+◌}
 use Rattle.base.specs.Number.{number}
 use Rattle.base.specs.Range.{some, how_many, first, fold}
-use Rattle.base.specs.Set.{has}
+use Rattle.base.specs.Set.{has, members}
 use Rattle.base.specs.Table.{tab, rows_of}
 
 -- the most significant byte first; bytes past the end count as 0
@@ -14,16 +14,16 @@ unfolding number
 numbers = refl
 
 -- the set of 0 and 2, and the empty set
-members : (has 5 0 ∷ has 5 1 ∷ has 5 2 ∷ has 5 3 ∷ has 0 0 ∷ []) ≡ (true ∷ false ∷ true ∷ false ∷ false ∷ [])
+in_set : (has 5 0 ∷ has 5 1 ∷ has 5 2 ∷ has 5 3 ∷ has 0 0 ∷ []) ≡ (true ∷ false ∷ true ∷ false ∷ false ∷ [])
 unfolding has
-members = refl
+in_set = refl
 
 counts : (how_many (has 5) 64 ∷ first (has 4) 64 ∷ first (has 0) 64 ∷ []) ≡ (2 ∷ 2 ∷ 64 ∷ [])
 unfolding has some how_many first
 counts = refl
 
 -- each member once, in increasing order
-walked : fold (λ l i. l ++ (i ∷ [])) [] (has 37) 64 ≡ (0 ∷ 2 ∷ 5 ∷ [])
+walked : members 37 ≡ (0 ∷ 2 ∷ 5 ∷ [])
 unfolding has fold
 walked = refl
 

@@ -2,3 +2,4 @@ pub mod Number
 pub mod Range
 pub mod Set
 pub mod Table
+pub mod Walk

@@ -1,92 +1,44 @@
-// What every crate above leans on: the larger, the smaller and the difference of two numbers, numbers in bytes, sets of numbers as
-// 64-bit words, tables (specs/ alone). It knows no job.
+// What every crate above leans on: numbers in bytes, sets of numbers as 64-bit words and their members, copies, tables (specs/ alone). It
+// knows no job.
 #![tactic(auto)]
 
-ghost use Rattle.std.specs.Prelude.{cond, not, ◌&&◌, ◌||◌, ◌≡◌, ℕ, ◌+◌, ◌-◌, ◌^◌, ◌≤◌, ◌<◌, max, min, eqb, ltb, length};
+ghost use Rattle.std.specs.Prelude.{cond, not, ◌&&◌, ◌||◌, ◌≡◌, ℕ, ◌+◌, ◌^◌, ◌≤◌, ◌<◌, eqb, ltb, length};
+ghost use Rattle.std.specs.Iterator.{YieldsFirst, item_count};
 ghost use Rattle.base.specs.Number.{number};
-ghost use Rattle.base.specs.Range.{how_many, first};
+ghost use Rattle.base.specs.Range.{how_many};
 ghost use Rattle.base.specs.Set.{has, word_bits};
+ghost use Rattle.base.specs.Walk.{walk_left};
 
 // How many numbers a word has room for, as a set.
 pub const WORD_BITS: usize = 64;
 
-// The larger of two numbers, the smaller, and the difference cut off at 0; each at both widths.
-pub fn max(a: u64, b: u64) -> u64
-    ensures { result ≡ max a b }
-{
-    if a < b { b } else { a }
-}
-
-pub fn max_usize(a: usize, b: usize) -> usize
-    ensures { result ≡ max a b }
-{
-    if a < b { b } else { a }
-}
-
-pub fn min(a: u64, b: u64) -> u64
-    ensures { result ≡ min a b }
-{
-    if b < a { b } else { a }
-}
-
-pub fn min_usize(a: usize, b: usize) -> usize
-    ensures { result ≡ min a b }
-{
-    if b < a { b } else { a }
-}
-
-pub fn minus(a: u64, b: u64) -> u64
-    ensures { result ≡ a - b }
-{
-    if a < b { 0 } else { a - b }
-}
-
-pub fn minus_usize(a: usize, b: usize) -> usize
-    ensures { result ≡ a - b }
-{
-    if a < b { 0 } else { a - b }
-}
-
-// The first number where the test passes, else the second: a choice that needs no branch.
-pub fn select(test: bool, first: u64, second: u64) -> u64
+// The first where the test passes, else the second: a choice that needs no branch.
+pub fn select<T: Copy>(test: bool, first: T, second: T) -> T
     ensures { result ≡ cond test first second }
 {
     if test { first } else { second }
 }
 
-pub fn select_usize(test: bool, first: usize, second: usize) -> usize
-    ensures { result ≡ cond test first second }
+// The first list onto the second. A loop, as `copy_from_slice` calls memmove, and the C library asks for memcpy and memset alone.
+pub fn copy<T: Copy>(from: &[T], to: &mut [T])
+    requires { length from.now ≡ length to.old }
+    ensures { to.new ≡ from.now }
 {
-    if test { first } else { second }
+    for (i, x) in to.iter_mut().enumerate() {
+        *x = from[i];
+    }
 }
 
-fn wide(byte: u8) -> u64
-    ensures { (result ≡ byte) × (result < 256) }
+// The big-endian number in WIDTH bytes. By hand: fields are 1, 2, 3, 4 and 8 bytes wide, and `from_be_bytes` has one width for each type.
+pub fn number<const WIDTH: usize>(s: &[u8], place: usize) -> u64
+    requires { (WIDTH ≤ 8) × (place + WIDTH ≤ length s.now) }
+    ensures { (result ≡ number s.now place WIDTH) × (result < 256 ^ WIDTH) }
 {
-    byte as u64
-}
-
-// The big-endian number in `width` bytes: one function for every width.
-pub fn number_at(s: &[u8], place: usize, width: usize) -> u64
-    requires { (width ≤ 8) × (place + width ≤ length s.now) }
-    ensures { (result ≡ number s.now place width) × (result < 256 ^ width) }
-{
-    let mut r: u64 = 0;
-    let mut i = 0;
-    while i < width {
-        r = r * 256 + wide(s[place + i]);
-        i += 1;
+    let mut r = 0;
+    for i in 0..WIDTH {
+        r = r * 256 + u64::from(s[place + i]);
     }
     r
-}
-
-// The same at four bytes, without a loop: frames are read by it, and there are many.
-pub fn number4_at(s: &[u8], place: usize) -> u64
-    requires { place + 4 ≤ length s.now }
-    ensures { (result ≡ number s.now place 4) × (result < 256 ^ 4) }
-{
-    ((wide(s[place]) * 256 + wide(s[place + 1])) * 256 + wide(s[place + 2])) * 256
-        + wide(s[place + 3])
 }
 
 // Whether i is in the set s.
@@ -130,19 +82,31 @@ pub fn count(s: u64) -> usize
     u64::count_ones(s) as usize
 }
 
-// The lowest member of s; 64 where s is empty.
-pub fn lowest(s: u64) -> usize
-    ensures { result ≡ first (has s) word_bits }
-{
-    u64::trailing_zeros(s) as usize
+// The members of a set, from the lowest on.
+#[derive(Clone, Copy, Debug)]
+pub struct Walk {
+    pub left: u64,
 }
 
-// The set s without its lowest member, by which a walk over s goes on: it is a smaller number, so the walk ends.
-pub fn without_lowest(s: u64) -> u64
-    ensures { ((j : ℕ) → has result j ≡ (has s j && not (eqb j (first (has s) word_bits)))) × (result ≤ s - 1) }
+pub fn members(s: u64) -> Walk
+    ensures { result.left ≡ s }
 {
-    if s == 0 {
-        return 0;
+    Walk { left: s }
+}
+
+impl Iterator for Walk {
+    type Item = usize;
+
+    ghost next_gives = { YieldsFirst walk_left };
+
+    ghost remaining = { item_count walk_left };
+
+    fn next(&mut self) -> Option<usize> {
+        if self.left == 0 {
+            return None;
+        }
+        let lowest = self.left.trailing_zeros() as usize;
+        self.left &= self.left - 1;
+        Some(lowest)
     }
-    s & (s - 1)
 }

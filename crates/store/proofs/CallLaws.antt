@@ -1,15 +1,19 @@
 -- Laws of the calls: when each is answered and when it is refused, and what is known where it was answered.
 use mathlib.Core.Bool.{Bool, true, false, cond, not, ◌||◌}
 use mathlib.Core.List.{List}
-use mathlib.Core.Path.{◌≡◌, refl, sym, ◌∙◌}
+use mathlib.Core.Path.{◌≡◌, refl, ap, sym, ◌∙◌}
 use Prim.Native.Nat.{ℕ, ◌≤◌, ◌<◌}
 use native.Mathlib.Omega.{arith}
 use lib.Dec.{eqb, ltb}
 use lib.ListN.{length, take}
 use borrow.Author.Tests.{eqb-true, eqb-false, ltb-true, ltb-false, not-false, ne_eqb, lt-ltb}
+use Rattle.std.specs.Prelude.{Result, Ok, Err}
+use Rattle.std.specs.Result.{IsErrAnd}
 use Rattle.base.proofs.BoolLaws.{or_no_left, or_no_right}
-use Rattle.store.specs.Store.{bad_store, no_space, not_waiting, waiting_for, waiting_bytes, free, unfit}
+use Rattle.store.specs.Store.{bad_store, no_space, not_waiting, number, number_of, waiting_for, waiting_bytes, free, unfit}
 use Rattle.store.specs.Store.{append_number, take_number, appended, taken, written, Appends, Takes}
+use Rattle.store.specs.declared.Refusal.{Refusal}
+use Rattle.store.specs.declared.Refusal.TheVariants.{BadStore, NoSpace, NotWaiting}
 use Rattle.store.specs.declared.Store.{Store}
 use Rattle.store.proofs.StoreLaws.{Possible, unfit-facts}
 
@@ -17,6 +21,13 @@ use Rattle.store.proofs.StoreLaws.{Possible, unfit-facts}
 pub past : (t : Bool) (e r : ℕ) → eqb e 0 ≡ false → cond t e r ≡ 0 → (t ≡ false) × (r ≡ 0)
 past true e r some h = absurd (eqb-false e 0 some h)
 past false e r some h = (refl, h)
+
+-- a refusal that is handed on
+pub handed_on : (r : Result (Unit {0}) Refusal) (e : Refusal) → IsErrAnd r (λ d. d ≡ e) → (number_of r ≡ number e) × (eqb (number_of r) 0 ≡ false)
+handed_on (Ok _) e h = absurd h
+handed_on (Err BadStore) e h = (ap number h, refl)
+handed_on (Err NoSpace) e h = (ap number h, refl)
+handed_on (Err NotWaiting) e h = (ap number h, refl)
 
 -- ---- an append
 

@@ -1,15 +1,16 @@
 -- Laws of the counts, looked at in two parts: those of the children, and those of children that the store hasn't got.
 use mathlib.Core.Bool.{Bool, true, false, cond, ◌||◌}
-use mathlib.Core.List.{List}
-use mathlib.Core.Path.{◌≡◌, refl, sym, ◌∙◌}
+use mathlib.Core.List.{List, [], ◌∷◌, ◌++◌}
+use mathlib.Core.Path.{◌≡◌, refl, ap, sym, ◌∙◌}
 use mathlib.Core.Logic.{◌⊎◌, inl, inr}
 use Prim.Native.Nat.{ℕ, zero, suc, ◌+◌, ◌-◌, ◌≤◌, ◌<◌}
 use native.Mathlib.Nat.{add-zero, add-suc}
 use native.Mathlib.Omega.{arith}
 use lib.Dec.{ltb}
-use lib.ListN.{length, get_or}
-use lib.Seq.{ext_get_or}
+use lib.ListN.{length, get_or, take, drop}
+use lib.Seq.{get_or-take, length-take-le, ext_get_or}
 use borrow.Author.Tests.{lt-ltb, le-ltb, ltb-true, ltb-false}
+use Rattle.std.specs.List.{list_any}
 use borrow.Rule.Slice.PartMut.{mid_of, put_mid, mid_len}
 use Rattle.base.specs.Range.{some, greatest}
 use Rattle.base.specs.Table.{tab}
@@ -19,7 +20,7 @@ use Rattle.base.proofs.TableLaws.{length-tab, get_or-tab}
 use Rattle.store.specs.Store.{most_children, waiting_for, free, count_wrong, appended}
 use Rattle.store.specs.declared.Store.{Store}
 use Rattle.store.proofs.StoreLaws.{Possible, waiting_to}
-use Rattle.store.proofs.StretchLaws.{put-length, put-inside, put-after, mid_byte}
+use Rattle.store.proofs.StretchLaws.{put-length, put-inside, put-after, put_front, mid_byte}
 
 some-split : (p : ℕ → Bool) (k d : ℕ) → some p (k + d) ≡ (some p k || some (λ i. p (k + i)) d)
 unfolding some
@@ -30,50 +31,63 @@ some-split p k (suc d) = rw (add-suc k d, some-split p k d) (assoc (some p k) _ 
     assoc true b c = refl
     assoc false b c = refl
 
--- one of the counts from a to e is above `most`
-part_above : (l : List ℕ) (a e most : ℕ) → a ≤ e → e ≤ length l
-    → some (λ i. ltb most (get_or (mid_of a (e - a) l) i 0)) (length (mid_of a (e - a) l)) ≡ some (λ i. ltb most (get_or l (a + i) 0)) (e - a)
-part_above l a e most from to = rw (mid_len a e l to) (some_cong _ _ (e - a) (λ i h. rw (mid_byte l a e i h)))
+-- whether an element of a list passes, by its place
+pub some_any : (p : ℕ → Bool) (l : List ℕ) → some (λ i. p (get_or l i 0)) (length l) ≡ list_any p l
+unfolding some
+some_any p [] = refl
+some_any p (x ∷ xs) =
+    let f : ℕ → Bool = λ i. p (get_or (x ∷ xs) i 0) in
+    let long : length (x ∷ xs) ≡ 1 + length xs = omega arith in
+    let rest : some (λ i. f (1 + i)) (length xs) ≡ list_any p xs =
+    some_cong _ _ (length xs) (λ i h. let e : 1 + i ≡ suc i = omega arith in rw e) ∙ some_any p xs in
+    ap (some f) long ∙ (some-split f 1 (length xs) ∙ ap (λ (b : Bool). p x || b) rest)
+
+-- the same for a list that holds f 0, .., f (n - 1)
+any_is : (p : ℕ → Bool) (l : List ℕ) (f : ℕ → ℕ) (n : ℕ) → length l ≡ n → ((i : ℕ) → i < n → get_or l i 0 ≡ f i)
+    → list_any p l ≡ some (λ i. p (f i)) n
+any_is p l f n long is = sym (some_any p l) ∙ rw long (some_cong _ _ n (λ i h. rw (is i h)))
 
 module _ (s : Store) (counted : length s.waiting ≡ most_children) (few : s.children ≤ most_children) where
   abbrev own : List ℕ
-  own = mid_of 0 (s.children - 0) s.waiting
+  own = take s.children s.waiting
 
   abbrev absent : List ℕ
-  absent = mid_of s.children (length s.waiting - s.children) s.waiting
+  absent = mid_of s.children (most_children - s.children) s.waiting
 
-  pub own_above : (most : ℕ) → some (λ i. ltb most (get_or own i 0)) (length own) ≡ some (λ c. ltb most (waiting_for s c)) s.children
-  own_above most =
-      let all : s.children - 0 ≡ s.children = omega arith in
-      part_above s.waiting 0 s.children most (omega arith) (omega arith)
-      ∙ rw all (some_cong _ _ s.children (λ i h. let here : 0 + i ≡ i = omega arith in rw here))
+  own_length : length own ≡ s.children
+  own_length = length-take-le s.children s.waiting (omega (arith, counted))
 
-  pub counts_are : some (count_wrong s) most_children
-      ≡ (some (λ i. ltb s.length (get_or own i 0)) (length own) || some (λ i. ltb 0 (get_or absent i 0)) (length absent))
+  pub own_above : (most : ℕ) → list_any (ltb most) own ≡ some (λ c. ltb most (waiting_for s c)) s.children
+  own_above most = any_is (ltb most) own (waiting_for s) s.children own_length (λ c h. get_or-take s.children s.waiting c 0 h)
+
+  pub counts_are : some (count_wrong s) most_children ≡ (list_any (ltb s.length) own || list_any (ltb 0) absent)
   counts_are =
-      let all : s.children + (length s.waiting - s.children) ≡ most_children = omega arith in
-      rw (own_above s.length, part_above s.waiting s.children (length s.waiting) 0 (omega arith) (omega arith), ← all)
-      (some-split (count_wrong s) s.children (length s.waiting - s.children)
+      let all : s.children + (most_children - s.children) ≡ most_children = omega arith in
+      let others : list_any (ltb 0) absent ≡ some (λ i. ltb 0 (waiting_for s (s.children + i))) (most_children - s.children) =
+      any_is (ltb 0) absent (λ i. waiting_for s (s.children + i)) (most_children - s.children)
+      (mid_len s.children most_children s.waiting (omega (arith, counted)))
+      (λ i h. mid_byte s.waiting s.children most_children i h) in
+      rw (own_above s.length, others)
+      (ap (some (count_wrong s)) (sym all)
+      ∙ (some-split (count_wrong s) s.children (most_children - s.children)
       ∙ rw (
         some_cong (count_wrong s) (λ c. ltb s.length (waiting_for s c)) s.children (λ c h. rw (lt-ltb c s.children h)),
-        some_cong (λ i. count_wrong s (s.children + i)) (λ i. ltb 0 (waiting_for s (s.children + i))) (length s.waiting - s.children)
+        some_cong (λ i. count_wrong s (s.children + i)) (λ i. ltb 0 (waiting_for s (s.children + i))) (most_children - s.children)
             (λ i h. rw (le-ltb (s.children + i) s.children (omega arith))),
-      ))
+      )))
 
   -- with n bytes more for each child
   abbrev raised : ℕ → List ℕ
   raised n = tab (λ c. get_or own c 0 + n) (length own)
 
-  pub counts_raised : (n : ℕ) → put_mid 0 (s.children - 0) s.waiting (raised n) ≡ (appended s n).waiting
+  pub counts_raised : (n : ℕ) → raised n ++ drop s.children s.waiting ≡ (appended s n).waiting
   counts_raised n =
-      ext_get_or 0 _ _ (long ∙ sym (length-tab _ most_children)) (λ c h. let inside : c < most_children = omega (arith, long) in
+      put_front s.waiting (raised n) s.children (omega (arith, counted)) (omega (arith, size))
+      ∙ ext_get_or 0 _ _ (long ∙ sym (length-tab _ most_children)) (λ c h. let inside : c < most_children = omega (arith, long) in
       cell c inside (lt_or_le c s.children) ∙ sym (get_or-tab (λ d. waiting_for s d + cond (ltb d s.children) n 0) most_children c inside))
     where
-      own_length : length own ≡ s.children - 0
-      own_length = mid_len 0 s.children s.waiting (omega arith)
-
       size : length (raised n) ≡ s.children - 0
-      size = length-tab _ (length own) ∙ own_length
+      size = length-tab _ (length own) ∙ omega (arith, own_length)
 
       long : length (put_mid 0 (s.children - 0) s.waiting (raised n)) ≡ most_children
       long = put-length s.waiting (raised n) 0 s.children (omega arith) (omega arith) size ∙ counted
@@ -82,10 +96,9 @@ module _ (s : Store) (counted : length s.waiting ≡ most_children) (few : s.chi
           → get_or (put_mid 0 (s.children - 0) s.waiting (raised n)) c 0 ≡ waiting_for s c + cond (ltb c s.children) n 0
       cell c h (inl k) =
           let start : c - 0 ≡ c = omega arith in
-          let here : 0 + c ≡ c = omega arith in
           let count : get_or (raised n) c 0 ≡ get_or own c 0 + n = get_or-tab (λ d. get_or own d 0 + n) (length own) c (omega (arith, own_length)) in
           put-inside s.waiting (raised n) 0 s.children (omega arith) (omega arith) size c (omega arith) k
-          ∙ rw (start, lt-ltb c s.children k) (count ∙ rw (mid_byte s.waiting 0 s.children c (omega arith), here))
+          ∙ rw (start, lt-ltb c s.children k) (count ∙ rw (get_or-take s.children s.waiting c 0 k))
       cell c h (inr k) =
           put-after s.waiting (raised n) 0 s.children (omega arith) (omega arith) size c k
           ∙ rw (le-ltb c s.children k) (omega arith)

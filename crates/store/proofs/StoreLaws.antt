@@ -73,6 +73,9 @@ module _ (s : Store) where
   unfit-facts long h =
       (possible_facts (or_no_right (not (eqb long s.length)) _ h), eqb-true long s.length (not-false _ (or_no_left _ _ h)))
 
+  pub few_children : (long : ℕ) → unfit s long ≡ false → s.children ≤ most_children
+  few_children long h = (unfit-facts long h).0.few
+
   pub unfit-not : (long : ℕ) → Possible s → long ≡ s.length → unfit s long ≡ false
   unfolding unfit
   unfit-not long possible is = rw (eq-eqb long s.length is) (possible_is possible)

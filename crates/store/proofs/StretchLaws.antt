@@ -7,7 +7,7 @@ use Prim.Native.Nat.{ℕ, ◌+◌, ◌-◌, ◌≤◌, ◌<◌, min}
 use native.Mathlib.Omega.{arith}
 use lib.Dec.{ltb}
 use lib.ListN.{length, get_or, take, drop}
-use lib.Seq.{get_or-take, get_or-drop, ext_get_or}
+use lib.Seq.{get_or-take, get_or-drop, length-take-le, ext_get_or}
 use borrow.Author.Tests.{lt-ltb, le-ltb}
 use borrow.Rule.Slice.PartMut.{mid_of, put_mid, Post-is, mid_len, same_len_mid}
 use Rattle.base.specs.Table.{tab}
@@ -38,6 +38,13 @@ module _ (l r : List ℕ) (a e : ℕ) (from : a ≤ e) (to : e ≤ length l) (sa
   pub put-after : (q : ℕ) → e ≤ q → get_or (put_mid a (e - a) l r) q 0 ≡ get_or l q 0
   put-after q h = rw put_is (part_after l r a (e - a) (omega arith) same q (omega arith))
 
+-- the first e that are replaced
+pub put_front : (l r : List ℕ) (e : ℕ) → e ≤ length l → length r ≡ e → r ++ drop e l ≡ put_mid 0 (e - 0) l r
+put_front l r e to same =
+    let end : 0 + (e - 0) ≡ e = omega arith in
+    let whole : put_mid 0 (e - 0) l r ≡ take 0 l ++ (r ++ drop (0 + (e - 0)) l) = put_is l r 0 e (omega arith) to (omega arith) in
+    sym (rw end at whole)
+
 -- a stretch that is read
 pub mid_byte : (l : List ℕ) (a e i : ℕ) → i < e - a → get_or (mid_of a (e - a) l) i 0 ≡ get_or l (a + i) 0
 mid_byte l a e i h = get_or-take (e - a) (drop a l) i 0 h ∙ get_or-drop a l i 0
@@ -54,7 +61,7 @@ module _ (l bytes : List ℕ) (p f : ℕ) (place : p ≤ length l) (fits : lengt
 
     -- the bytes before the end and after it, and the slice with the ones and with both
     abbrev before : List ℕ
-    before = mid_of 0 (f - 0) bytes
+    before = take f bytes
 
     abbrev after : List ℕ
     after = mid_of f (n - f) bytes
@@ -66,7 +73,7 @@ module _ (l bytes : List ℕ) (p f : ℕ) (place : p ≤ length l) (fits : lengt
     twice = put_mid 0 (n - f - 0) once after
 
     before_length : length before ≡ p + f - p
-    before_length = mid_len 0 f bytes (omega arith) ∙ omega arith
+    before_length = omega (arith, length-take-le f bytes (omega arith))
 
     after-length : length after ≡ n - f - 0
     after-length = mid_len f n bytes (omega arith) ∙ omega arith
@@ -74,10 +81,11 @@ module _ (l bytes : List ℕ) (p f : ℕ) (place : p ≤ length l) (fits : lengt
     once_length : length once ≡ m
     once_length = put-length l before p (p + f) (omega arith) (omega arith) before_length
 
-    pub write_stretches : twice ≡ written p l bytes
+    pub write_stretches : after ++ drop (n - f) once ≡ written p l bytes
     unfolding written
     write_stretches =
-        ext_get_or 0 _ _ (long ∙ sym (length-tab _ m)) (λ q h. let inside : q < m = omega (arith, long) in
+        put_front once after (n - f) (omega (arith, once_length)) (omega (arith, after-length))
+        ∙ ext_get_or 0 _ _ (long ∙ sym (length-tab _ m)) (λ q h. let inside : q < m = omega (arith, long) in
         cell q inside (lt_or_le q (n - f)) (lt_or_le q p) (lt_or_le q (p + f)) ∙ sym (written_cell m p l bytes refl q inside))
       where
         long : length twice ≡ m
@@ -108,10 +116,9 @@ module _ (l bytes : List ℕ) (p f : ℕ) (place : p ≤ length l) (fits : lengt
             stays q (second q a ∙ put_before l before p (p + f) (omega arith) (omega arith) before_length q b)
             (omega (arith, back_round m q p b))
         cell q h (inr a) (inr b) (inl c) =
-            let start : 0 + (q - p) ≡ q - p = omega arith in
             comes q (q - p)
             (second q a ∙ put-inside l before p (p + f) (omega arith) (omega arith) before_length q b c
-            ∙ rw start at (mid_byte bytes 0 f (q - p) (omega arith)))
+            ∙ get_or-take f bytes (q - p) 0 (omega arith))
             (back_near m q p b) (omega arith)
         cell q h (inr a) (inr b) (inr c) =
             stays q (second q a ∙ put-after l before p (p + f) (omega arith) (omega arith) before_length q c)
@@ -124,7 +131,7 @@ module _ (l out : List ℕ) (p f : ℕ) (place : p ≤ length l) (fits : length 
   front = mid_of p (p + f - p) l
 
   abbrev rest : List ℕ
-  rest = mid_of 0 (length out - f - 0) l
+  rest = take (length out - f) l
 
   abbrev begun : List ℕ
   begun = put_mid 0 (f - 0) out front
@@ -136,15 +143,17 @@ module _ (l out : List ℕ) (p f : ℕ) (place : p ≤ length l) (fits : length 
   front_length = mid_len p (p + f) l (omega arith) ∙ omega arith
 
   rest_length : length rest ≡ length out - f
-  rest_length = mid_len 0 (length out - f) l (omega arith) ∙ omega arith
+  rest_length = length-take-le (length out - f) l (omega arith)
 
   begun-length : length begun ≡ length out
   begun-length = put-length out front 0 f (omega arith) (omega arith) front_length
 
-  pub read_stretches : whole ≡ tab (λ i. get_or l (onward (length l) p i) 0) (length out)
+  pub read_stretches : put_mid f (length (front ++ drop f out) - f) (front ++ drop f out) rest
+      ≡ tab (λ i. get_or l (onward (length l) p i) 0) (length out)
   read_stretches =
-      ext_get_or 0 _ _ (long ∙ sym (length-tab _ (length out))) (λ i h. let inside : i < length out = omega (arith, long) in
-      cell i inside (lt_or_le i f) ∙ sym (get_or-tab (λ j. get_or l (onward (length l) p j) 0) (length out) i inside))
+      rw (put_front out front f (omega arith) (omega (arith, front_length)), begun-length)
+      (ext_get_or 0 _ _ (long ∙ sym (length-tab _ (length out))) (λ i h. let inside : i < length out = omega (arith, long) in
+      cell i inside (lt_or_le i f) ∙ sym (get_or-tab (λ j. get_or l (onward (length l) p j) 0) (length out) i inside)))
     where
       long : length whole ≡ length out
       long = put-length begun rest f (length out) (omega arith) (omega (arith, begun-length)) rest_length ∙ begun-length
@@ -156,6 +165,6 @@ module _ (l out : List ℕ) (p f : ℕ) (place : p ≤ length l) (fits : length 
           ∙ put-inside out front 0 f (omega arith) (omega arith) front_length i (omega arith) a
           ∙ rw (start, onward_near (length l) p i (omega arith)) (mid_byte l p (p + f) i (omega arith))
       cell i h (inr a) =
-          let start : p + i - length l ≡ 0 + (i - f) = omega arith in
+          let start : p + i - length l ≡ i - f = omega arith in
           put-inside begun rest f (length out) (omega arith) (omega (arith, begun-length)) rest_length i a (omega arith)
-          ∙ rw (onward_round (length l) p i (omega arith), start) (mid_byte l 0 (length out - f) (i - f) (omega arith))
+          ∙ rw (onward_round (length l) p i (omega arith), start) (get_or-take (length out - f) l (i - f) 0 (omega arith))

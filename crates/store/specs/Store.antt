@@ -1,10 +1,13 @@
 -- Document 02, 'The box's byte store': the numbers of a store over one lent slice, and what each call does.
 use Rattle.std.specs.Prelude.{Bool, cond, not, ◌&&◌, ◌||◌, List, ◌≡◌, ℕ, ◌+◌, ◌-◌, eqb, ltb, length, get_or, set, take}
+use Rattle.std.specs.Prelude.{Result, Ok, Err}
 use Rattle.base.specs.Range.{some, greatest}
 use Rattle.base.specs.Table.{tab}
+use Rattle.store.specs.declared.Refusal.{Refusal}
+use Rattle.store.specs.declared.Refusal.TheVariants.{BadStore, NoSpace, NotWaiting}
 use Rattle.store.specs.declared.Store.{Store}
 
--- ---- the numbers of the checks, and the most children, each by the name that src/ has for it
+-- ---- the numbers of the checks, and the most children
 
 abbrev pub bad_store : ℕ
 bad_store = 17
@@ -14,6 +17,16 @@ no_space = 18
 
 abbrev pub not_waiting : ℕ
 not_waiting = 19
+
+abbrev pub number : Refusal → ℕ
+number BadStore = bad_store
+number NoSpace = no_space
+number NotWaiting = not_waiting
+
+-- what a call says: 0 where it is answered
+abbrev pub number_of : {T : Type 0} → Result T Refusal → ℕ
+number_of (Ok _) = 0
+number_of (Err refusal) = number refusal
 
 abbrev pub most_children : ℕ
 most_children = 63

@@ -5,5 +5,4 @@ use Rattle.store.proofs.read_round.Goals as goal
 pub returns : goal.returns
 returns c =
     rw (c.copy-2.ensures, c.copy.ensures)
-    (read_stretches c.args.slice.now c.args.out.now c.args.place c.min_usize-first.result c.requires.0 c.requires.1
-    c.min_usize-first.ensures)
+    (read_stretches c.args.slice.now c.args.out.now c.args.place c.min-first.result c.requires.0 c.requires.1 c.min-first.ensures)

@@ -14,24 +14,29 @@ use Rattle.base.proofs.RangeLaws.{none_passes}
 use Rattle.job.specs.Limits.{fewest_nodes, most_nodes, fewest_frames, most_frames, longest_delay, greatest_memory, greatest_rate, greatest_frame}
 use Rattle.job.specs.Tree.{Tree, TreeWithin, JobWithin, link, child, has_child, leaf}
 use Rattle.job.specs.Bytes.{mark_rly, version_one, header_width, mark, version, node_count, frame_count, frame_at, wanted_length, tree_of, job_of}
-use Rattle.job.specs.Refusal.{outside, parent_wrong, delay_wrong, amount_wrong, frame_wrong, some_node, refusal}
-use Rattle.job.specs.Read.{Accepted, struct_of, refused_with, refused_or, read_of, tree_in, size_refusal}
+use Rattle.job.specs.Refusal.{outside, parent_wrong, delay_wrong, amount_wrong, frame_wrong, some_node, refusal, number}
+use Rattle.job.specs.Read.{Gives, Reads, Accepted, struct_of, tree_in, size_refusal, frame_refusal}
 use Rattle.job.specs.Steps.{parents_of, or_else, head_refusal, nodes_refusal, rest_refusal, Sized}
 use Rattle.job.specs.declared.Job.{Job}
-use Rattle.job.specs.declared.Reading.{Reading}
+use Rattle.job.specs.declared.Refusal.{Refusal}
+use Rattle.job.specs.declared.Refusal.TheVariants.{Short}
+use Rattle.std.specs.Prelude.{Result, Ok, Err, is_err, IsErrAnd}
+use Rattle.std.specs.Result.{MatchResult}
 use Rattle.job.proofs.TreeLaws.{link_in}
 use Rattle.job.proofs.ReadLaws.{struct_holds, per_node_past}
 
 -- ---- a refusal in parts
+
+-- no refusal has the number 0
+pub number_none : (e : Refusal) → number e ≡ 0 → ⊥
+number_none Short = omega arith
+number_none e = omega arith
 
 pub or_else-first : (a b : ℕ) → (a ≡ 0 → ⊥) → or_else a b ≡ a
 or_else-first a b h = rw (ne_eqb a 0 h) refl
 
 pub or_else_second : (a b : ℕ) → a ≡ 0 → or_else a b ≡ b
 or_else_second a b h = rw h refl
-
-pub refused_or-number : (a : ℕ) (j : Job) → (refused_or a j).refusal ≡ a
-refused_or-number a j = ⊎_elim (λ (e : eqb a 0 ≡ true). rw e (sym (eqb-true a 0 e))) (λ (e : eqb a 0 ≡ false). rw e refl) (true_or_false (eqb a 0))
 
 -- row 6
 abbrev pub length_refusal : List ℕ → ℕ
@@ -172,10 +177,6 @@ accepted_within s h =
 
 -- ---- what the reader returns, and where
 
--- a refusal with the number that the definition gives is what the reader gives
-pub read_refused : (s : List ℕ) (a : ℕ) → (a ≡ 0 → ⊥) → refusal s ≡ a → refused_with a ≡ read_of s
-read_refused s a h e = rw (e, ne_eqb a 0 h) refl
-
 pub head_long : (s : List ℕ) → head_refusal s ≡ 0 → header_width ≤ length s
 head_long s h = ltb-false (length s) header_width (cond-first (ltb (length s) header_width) 1 _ (omega arith) h)
 
@@ -200,6 +201,20 @@ at_rest s a b h =
     ∙ or_else_second (size_refusal (node_count s) (frame_count s)) _ b
     ∙ rw (eq-eqb (length s) (wanted_length s) h) refl
 
+-- a refusal that a `?` hands on, by its row
+pub refusal_passed : {A : Type 0} (r : Result A Refusal) (e : Refusal) (row : ℕ) (x : A) → IsErrAnd r (λ y. y ≡ e) → number e ≡ row → Gives r row x
+refusal_passed (Ok y) e row x h is = absurd h
+refusal_passed (Err y) e row x h is = ap number h ∙ is
+
+-- a frame is refused exactly where it is too large
+pub frame_refused : {A : Type 0} (r : Result A Refusal) (size : ℕ) (x : A) → Gives r (frame_refusal size) x → is_err r ≡ frame_wrong size
+frame_refused (Ok y) size x (none, is) = sym (cond-first (frame_wrong size) 10 0 (omega arith) none)
+frame_refused (Err e) size x is = go (frame_wrong size) is
+  where
+    go : (b : Bool) → number e ≡ cond b 10 0 → true ≡ b
+    go true q = refl
+    go false q = absurd (number_none e q)
+
 -- the parents alone settle who is a parent
 pub parents_settle : (s : List ℕ) → node_count s ≤ most_nodes → (k : ℕ) → has_child (tree_in (struct_of (parents_of s) (frame_count s))) k ≡ has_child (tree_of s) k
 unfolding has_child child
@@ -219,29 +234,31 @@ read_holds s h =
       rates = λ i q. per_node_past _ _ i (omega arith);
     })
 
--- what a caller learns from a reading: its number, and where that is 0, the job
-pub read_number : (s : List ℕ) (r : Reading) → r ≡ read_of s → r.refusal ≡ refusal s
-read_number s r e = ap (λ (x : Reading). x.refusal) e ∙ refused_or-number (refusal s) (struct_of (tree_of s) (frame_count s))
+-- ---- what a caller learns from a reading
 
-pub read_is : (s : List ℕ) (r : Reading) → r ≡ read_of s → r.refusal ≡ 0 → (refusal s ≡ 0) × (r.job ≡ struct_of (tree_of s) (frame_count s))
-read_is s r e h =
-    let z : refusal s ≡ 0 = sym (read_number s r e) ∙ h in
-    (z, ap (λ (x : Reading). x.job) e ∙ rw z refl)
-
-pub read_accepts : (s : List ℕ) (r : Reading) → r ≡ read_of s → r.refusal ≡ 0 → Accepted s r.job
-read_accepts s r e h =
-    let (z, is) = read_is s r e h in
-    let w = accepted_within s z in
-    let held : tree_in r.job ≡ tree_of s = ap tree_in is ∙ read_holds s w.tree.nodes_to in
-    let frames : r.job.frames ≡ frame_count s = ap (λ (j : Job). j.frames) is in
+-- a job that was read is accepted
+pub read_accepts : (s : List ℕ) (job : Job) → Reads (Ok job) s → Accepted s job
+read_accepts s job (none, is) =
+    let w = accepted_within s none in
+    let held : tree_in job ≡ tree_of s = ap tree_in is ∙ read_holds s w.tree.nodes_to in
+    let frames : job.frames ≡ frame_count s = ap (λ (j : Job). j.frames) is in
     record {
-      none = z;
+      none = none;
       held = held;
       frames = frames;
       tree_within = rw held w.tree;
       within = w;
       same = λ x. record { tree = held x; M = frames x; frame = frame_at s };
     }
+
+-- the number of a reading is the refusal's: 0 of a job
+pub read_number : (s : List ℕ) (r : Result Job Refusal) → Reads r s → MatchResult r (λ _. 0 ≡ refusal s) (λ e. number e ≡ refusal s)
+read_number s (Ok job) (none, is) = sym none
+read_number s (Err e) is = is
+
+-- bytes that were not read are no job
+pub read_refuses : (s : List ℕ) (e : Refusal) → Reads (Err e) s → refusal s ≡ 0 → ⊥
+read_refuses s e is none = number_none e (is ∙ none)
 
 -- an accepted job's struct has what H and the plan's length ask of one
 pub accepted_struct : (s : List ℕ) (job : Job) → Accepted s job → TreeWithin (tree_in job) × (job.frames ≤ most_frames)

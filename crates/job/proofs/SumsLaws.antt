@@ -13,7 +13,7 @@ use Rattle.job.specs.Tree.{JobData, JobWithin, T}
 use Rattle.job.proofs.SlotLaws.{T-zero, T_past, T_le, T_top, T-fits}
 use Rattle.job.specs.Bytes.{frame_count, job_of}
 use Rattle.job.specs.Read.{Accepted}
-use Rattle.job.specs.Sums.{Film, HoldsSums, WithSums, sums_in, last_in, sums_of}
+use Rattle.job.specs.Sums.{Film, HoldsSums, FilmSums, WithSums, sums_in, last_in, sums_of}
 use Rattle.job.specs.declared.Job.{Job}
 
 -- the numbers that it holds are a film's
@@ -85,3 +85,7 @@ with_sums s job acc = record {
   film = job_sums (job_of s) acc.within;
   long = length-tab (T (job_of s)) (frame_count s + 1) ∙ omega (arith, acc.frames);
 }
+
+-- and those of a film within the limits
+pub film_sums : (job : Job) (sums : List ℕ) → WithSums job sums → FilmSums sums
+film_sums job sums with = record { holds = with.film; frames_to = omega (arith, with.long, with.frames_to) }

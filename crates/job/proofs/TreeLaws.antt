@@ -2,15 +2,13 @@
 use mathlib.Core.Bool.{Bool, true, false, not, ◌&&◌, ◌||◌}
 use mathlib.Core.Path.{◌≡◌, refl, ap, sym, ◌∙◌}
 use mathlib.Core.Logic.{◌⊎◌, inl, inr, ⊎_elim}
-use mathlib.Core.List.{List}
 use Prim.Native.Nat.{ℕ, zero, suc, ◌+◌, ◌≤◌, ◌<◌}
 use native.Mathlib.Numerals.{add-one}
 use native.Mathlib.Omega.{arith}
 use lib.Dec.{ltb, eqb}
-use lib.ListN.{get_or}
 use borrow.Author.Tests.{lt-ltb, le-ltb, ltb-true, eq-eqb, eqb-true}
 use Rattle.base.specs.Range.{some}
-use Rattle.base.specs.Set.{word_bits}
+use Rattle.base.specs.Set.{has, word_bits}
 use Rattle.base.proofs.BoolLaws.{true_or_false, not_both, otherwise, and_left, and_right, and_true}
 use Rattle.base.proofs.BoolLaws.{and_no_right, or_right, or_cases, lt_or_le}
 use Rattle.base.proofs.RangeLaws.{some-passes, which_passes}
@@ -79,6 +77,12 @@ leaf_no_parent t i c h p q e = not_both (rw e at (has-child t c p q)) (leaf_chil
 pub leaf_past : (t : Tree) (i : ℕ) → t.n ≤ i → leaf t i ≡ false
 unfolding leaf
 leaf_past t i h = rw (le-ltb i t.n h)
+
+-- a leaf is a node that the set of parents has not
+pub leaf_of_set : (t : Tree) (inner i : ℕ) → t.n ≤ word_bits → ((k : ℕ) → has inner k ≡ (has_child t k && ltb k word_bits)) → i < t.n
+    → not (has inner i) ≡ leaf t i
+unfolding leaf
+leaf_of_set t inner i h e k = rw (e i, lt-ltb i word_bits (omega arith), and_true, lt-ltb i t.n k) refl
 
 -- a loop over the links that gathers parents
 pub parents-none : (t : Tree) (k : ℕ) → some (λ c. child t c k) 1 ≡ false
@@ -244,7 +248,3 @@ at_word t w a l =
     (λ (e : leaf t l ≡ true). rw (lt-ltb l word_bits (omega (arith, leaf_in t l e, w.nodes_to)), and_true))
     (λ (e : leaf t l ≡ false). rw e)
     (true_or_false (leaf t l))
-
--- a tree of which only the shape is known, from the array of parents
-abbrev pub shape : ℕ → List ℕ → Tree
-shape n parents = record { n = n; parent = λ i. get_or parents i 0; delay = λ i. 0; memory = λ i. 0; rate = λ i. 0 }

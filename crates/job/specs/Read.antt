@@ -1,18 +1,14 @@
 -- What the code's types hold, in terms of the definitions: a job's struct, and what each constructor and the reader give.
-use Rattle.std.specs.Prelude.{Bool, cond, List, ◌≡◌, ℕ, eqb, get_or}
+use Rattle.std.specs.Prelude.{Bool, cond, List, ◌≡◌, ℕ, Result, Ok, Err, get_or}
 use Rattle.base.specs.Table.{tab}
 use Rattle.job.specs.Limits.{fewest_nodes, most_nodes, fewest_frames, most_frames, longest_delay, greatest_memory, greatest_rate, greatest_frame}
 use Rattle.job.specs.Tree.{Tree, JobData, H, plan_length, TreeWithin, JobWithin}
 use Rattle.job.specs.Bytes.{frame_count, frame_at, tree_of, job_of}
-use Rattle.job.specs.Refusal.{bad_nodes, bad_frames, bad_parent, bad_delay, large_memory, large_frame, outside, parent_wrong, delay_wrong, amount_wrong, frame_wrong, refusal}
-use Rattle.job.specs.declared.FrameMade.{FrameMade}
-use Rattle.job.specs.declared.FrameMade.TheVariants as frame_made
+use Rattle.job.specs.Refusal.{bad_nodes, bad_frames, bad_parent, bad_delay, large_memory, large_frame, outside, parent_wrong, delay_wrong, amount_wrong, frame_wrong, refusal, number}
+use Rattle.job.specs.declared.Refusal.{Refusal}
 use Rattle.job.specs.declared.Node.{Node}
-use Rattle.job.specs.declared.NodeMade.{NodeMade}
-use Rattle.job.specs.declared.NodeMade.TheVariants as node_made
 use Rattle.job.specs.declared.Job.{Job}
-use Rattle.job.specs.declared.Reading.{Reading}
-use Rattle.job.specs.declared.JobSizes.{JobSizes}
+use Rattle.job.specs.declared.Sizes.{Sizes}
 use Rattle.job.specs.declared.Limits.{Limits}
 
 -- every bound, as a struct
@@ -60,25 +56,18 @@ job_in job frame = record { tree = tree_in job; M = job.frames; frame = frame }
 abbrev pub bare_tree : ℕ → Tree
 bare_tree n = record { n = n; parent = λ i. 0; delay = λ i. 0; memory = λ i. 0; rate = λ i. 0 }
 
--- a refusal: its number and nothing else
-abbrev pub refused_with : ℕ → Reading
-refused_with number = record { refusal = number; job = struct_of (bare_tree 0) 0 }
+-- what a reader or a constructor gives: the value where no row of the table applies, else the refusal of that row
+abbrev pub Gives : {A : Type 0} → Result A Refusal → ℕ → A → Type 0
+Gives (Ok x) row value = (row ≡ 0) × (x ≡ value)
+Gives (Err e) row value = number e ≡ row
 
--- the refusal where there is one, else the job
-abbrev pub refused_or : ℕ → Job → Reading
-refused_or number job = cond (eqb number 0) (record { refusal = 0; job = job }) (refused_with number)
+-- the reader, of any bytes
+abbrev pub Reads : Result Job Refusal → List ℕ → Type 0
+Reads r s = Gives r (refusal s) (struct_of (tree_of s) (frame_count s))
 
--- what the reader gives of any bytes
-abbrev pub read_of : List ℕ → Reading
-read_of s = refused_or (refusal s) (struct_of (tree_of s) (frame_count s))
-
--- the sizes of the job that any bytes say: n, M, H and the plan's length; or the refusal, and each is 0
-abbrev pub sizes_of : List ℕ → JobSizes
-sizes_of s =
-    let j = job_of s in
-    cond (eqb (refusal s) 0)
-    (record { number = 0; nodes = j.tree.n; frames = j.M; last_slot = H j; plan_length = plan_length j })
-    (record { number = refusal s; nodes = 0; frames = 0; last_slot = 0; plan_length = 0 })
+-- the sizes of a job: n, M, H and the plan's length
+abbrev pub sizes_of : JobData → Sizes
+sizes_of j = record { nodes = j.tree.n; frames = j.M; last_slot = H j; plan_length = plan_length j }
 
 -- an accepted job and its struct, as a caller of the reader has them
 pub record Accepted (s : List ℕ) (job : Job) : Type 0 where
@@ -102,22 +91,3 @@ node_refusal i is_leaf node =
 
 abbrev pub frame_refusal : ℕ → ℕ
 frame_refusal size = cond (frame_wrong size) large_frame 0
-
--- what the constructors give: a job of these counts with empty records, a node, a frame
-abbrev pub new_job : ℕ → ℕ → Reading
-new_job n M = refused_or (size_refusal n M) (struct_of (bare_tree n) M)
-
-abbrev pub new_node : ℕ → Bool → Node → NodeMade
-new_node i is_leaf node = cond (eqb (node_refusal i is_leaf node) 0) (node_made.Made node) (node_made.Refused (node_refusal i is_leaf node))
-
-abbrev pub new_frame : ℕ → FrameMade
-new_frame size = cond (frame_wrong size) frame_made.TooLarge (frame_made.Made (record { size = size }))
-
--- document 01's number of each: 0 where it was made
-abbrev pub node_number : NodeMade → ℕ
-node_number (node_made.Made node) = 0
-node_number (node_made.Refused number) = number
-
-abbrev pub frame_number : FrameMade → ℕ
-frame_number (frame_made.Made frame) = 0
-frame_number frame_made.TooLarge = large_frame

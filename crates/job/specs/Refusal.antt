@@ -3,9 +3,11 @@ use Rattle.std.specs.Prelude.{Bool, cond, not, ◌&&◌, ◌||◌, List, ℕ, lt
 use Rattle.base.specs.Range.{some}
 use Rattle.job.specs.Limits.{fewest_nodes, most_nodes, fewest_frames, most_frames, longest_delay, greatest_memory, greatest_rate, greatest_frame}
 use Rattle.job.specs.Tree.{Tree, link, leaf}
+use Rattle.job.specs.declared.Refusal.{Refusal}
+use Rattle.job.specs.declared.Refusal.TheVariants.{Short, BadMark, BadVersion, BadNodes, BadFrames, BadLength, BadParent, BadDelay, LargeMemory, LargeFrame, BadLent}
 use Rattle.job.specs.Bytes.{mark_rly, version_one, header_width, mark, version, node_count, frame_count, wanted_length, tree_of, frame_at}
 
--- ---- the numbers of the table, each by the name that src/ has for it as a constant of what it refuses
+-- ---- the numbers of the table, each by the name that src/ has for its row
 
 abbrev pub short : ℕ
 short = 1
@@ -40,6 +42,19 @@ large_frame = 10
 -- what is lent beside the job's bytes
 abbrev pub bad_lent : ℕ
 bad_lent = 11
+
+abbrev pub number : Refusal → ℕ
+number Short = short
+number BadMark = bad_mark
+number BadVersion = bad_version
+number BadNodes = bad_nodes
+number BadFrames = bad_frames
+number BadLength = bad_length
+number BadParent = bad_parent
+number BadDelay = bad_delay
+number LargeMemory = large_memory
+number LargeFrame = large_frame
+number BadLent = bad_lent
 
 -- ---- what each row says
 

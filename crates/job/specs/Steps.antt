@@ -1,14 +1,15 @@
 -- The reader's inner functions: the table of refusals in the parts that they test, one after the other, and what they hand on.
-use Rattle.std.specs.Prelude.{cond, not, ◌&&◌, List, ◌≡◌, ℕ, ◌≤◌, min, eqb, ltb, length}
+use Rattle.std.specs.Prelude.{cond, not, ◌&&◌, List, ◌≡◌, ℕ, ◌≤◌, min, Option, None, Some, eqb, ltb, length}
 use Rattle.base.specs.Range.{some}
 use Rattle.base.specs.Set.{has, word_bits}
 use Rattle.job.specs.Limits.{fewest_nodes, most_nodes, fewest_frames, most_frames}
 use Rattle.job.specs.Tree.{Tree, has_child, leaf}
 use Rattle.job.specs.Bytes.{mark, version, mark_rly, version_one, header_width, node_count, frame_count, parent_at, delay_at, memory_at, rate_at, frame_at, wanted_length, per_node, tree_of}
-use Rattle.job.specs.Refusal.{short, bad_mark, bad_version, bad_parent, bad_delay, large_memory, large_frame, parent_wrong, delay_wrong, amount_wrong, frame_wrong, some_node}
+use Rattle.job.specs.Refusal.{short, bad_mark, bad_version, bad_parent, bad_delay, large_memory, large_frame, parent_wrong, delay_wrong, amount_wrong, frame_wrong, some_node, number}
 use Rattle.job.specs.Read.{struct_of, bare_tree}
 use Rattle.job.specs.declared.Job.{Job}
 use Rattle.job.specs.declared.Node.{Node}
+use Rattle.job.specs.declared.Refusal.{Refusal}
 
 -- what rows 1 to 6 leave: counts within their bounds, and the length that they ask for
 pub record Sized (s : List ℕ) : Type 0 where
@@ -42,6 +43,11 @@ node_at s i = record { parent = parent_at s i; delay = delay_at s i; memory = me
 -- the first refusal where there is one, else the second
 abbrev pub or_else : ℕ → ℕ → ℕ
 or_else a b = cond (eqb a 0) b a
+
+-- the row of a refusal, 0 where there is none
+abbrev pub row_of : Option Refusal → ℕ
+row_of None = 0
+row_of (Some e) = number e
 
 -- the earlier of two rows of the table, where 0 stands for none
 abbrev pub sooner : ℕ → ℕ → ℕ

@@ -47,6 +47,11 @@ pub record HoldsSums (l : List ℕ) : Type 0 where
   pub grows : (m k : ℕ) → m ≤ k → k < length l → get_or l m 0 ≤ get_or l k 0
   pub fits : last_in l ≤ greatest_total
 
+-- the sums T(0) to T(M) of a film within the limits
+pub record FilmSums (sums : List ℕ) : Type 0 where
+  pub holds : HoldsSums sums
+  pub frames_to : length sums ≤ most_frames + 1
+
 -- a job's struct within the limits, and the sums of its film
 pub record WithSums (job : Job) (sums : List ℕ) : Type 0 where
   pub tree : TreeWithin (tree_in job)

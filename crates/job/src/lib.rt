@@ -2,22 +2,46 @@
 // Definitions to believe: specs/Limits, Tree, Bytes, Refusal; what the types below hold: specs/Read.
 #![tactic(auto)]
 
-ghost use Rattle.std.specs.Prelude.{◌||◌, ◌≡◌, ℕ, ◌+◌, ◌≤◌, ◌<◌, eqb, length, get_or};
+ghost use Rattle.std.specs.Prelude.{◌≡◌, ℕ, ◌+◌, ◌≤◌, ◌<◌, length, get_or};
 ghost use Rattle.base.specs.Range.{some, greatest_over};
 ghost use Rattle.base.specs.Set.{has, word_bits};
 ghost use Rattle.job.specs.Limits as limit;
 ghost use Rattle.job.specs.Limits.{fewest_nodes, most_nodes, most_frames};
 ghost use Rattle.job.specs.Tree as tree;
 ghost use Rattle.job.specs.Tree.{child, leaf, below, leaf_at, plan_length, TreeWithin};
-ghost use Rattle.job.specs.Bytes.{record_place, node_count, frame_count, frame_at, tree_of};
-ghost use Rattle.job.specs.Refusal as refused;
-ghost use Rattle.job.specs.Refusal.{delay_wrong, frame_wrong, refusal};
-ghost use Rattle.job.specs.Sums.{tiny_room, short_room, middle_room, long_room, sums_of};
-ghost use Rattle.job.specs.Read.{Accepted, limits, new_frame, new_node, new_job, refused_with};
-ghost use Rattle.job.specs.Read.{node_refusal, frame_refusal, node_number, frame_number};
-ghost use Rattle.job.specs.Read.{struct_of, bare_tree, tree_in, job_in, refused_or, read_of, sizes_of};
+ghost use Rattle.job.specs.Bytes.{record_place, node_count, frame_count, frame_at, tree_of, job_of};
+ghost use Rattle.job.specs.Refusal.{number, delay_wrong, frame_wrong, refusal};
+ghost use Rattle.job.specs.Sums as sums;
+ghost use Rattle.job.specs.Sums.{sums_of, last_in, FilmSums, WithSums};
+ghost use Rattle.job.specs.Read.{Gives, Reads, Accepted, limits, size_refusal, node_refusal, frame_refusal};
+ghost use Rattle.job.specs.Read.{struct_of, bare_tree, tree_in, job_in, sizes_of};
 ghost use Rattle.job.specs.Steps.{node_at, parents_of, empty_job, full_job, InnerNodes};
-ghost use Rattle.job.specs.Steps.{head_refusal, nodes_refusal, rest_refusal, sooner, Sized};
+ghost use Rattle.job.specs.Steps.{head_refusal, nodes_refusal, rest_refusal, row_of, sooner, Sized};
+
+// Why a job is refused, in the order of document 01's table; the last row is of what is lent beside its bytes.
+#[derive(Clone, Copy, Debug, PartialEq, Eq, PartialOrd, Ord)]
+pub enum Refusal {
+    Short = 1,
+    BadMark,
+    BadVersion,
+    BadNodes,
+    BadFrames,
+    BadLength,
+    BadParent,
+    BadDelay,
+    LargeMemory,
+    LargeFrame,
+    BadLent,
+}
+
+// The table's number.
+impl From<Refusal> for u64 {
+    ghost from_gives = { λ refusal n. n ≡ number refusal };
+
+    fn from(refusal: Refusal) -> u64 {
+        refusal as u64
+    }
+}
 
 // A frame's size in bytes.
 #[derive(Clone, Copy)]
@@ -25,28 +49,18 @@ pub struct Frame {
     pub size: u64,
 }
 
-#[derive(Clone, Copy)]
-pub enum FrameMade {
-    Made(Frame),
-    TooLarge,
-}
-
 impl Frame {
     pub const GREATEST: u64 = 268_435_455;
-
-    pub const LARGE_FRAME: u64 = 10;
     // Bytes that a size takes in a job.
     pub const WIDTH: usize = 4;
 
-    pub fn new(size: u64) -> FrameMade
-        ensures made { result ≡ new_frame size }
-        ensures number { frame_number result ≡ frame_refusal size }
+    pub fn new(size: u64) -> Result<Frame, Refusal>
+        ensures { Gives result (frame_refusal size) (record { size = size }) }
     {
         if Frame::GREATEST < size {
-            FrameMade::TooLarge
-        } else {
-            FrameMade::Made(Frame { size })
+            return Err(Refusal::LargeFrame);
         }
+        Ok(Frame { size })
     }
 }
 
@@ -59,20 +73,14 @@ pub struct Node {
     pub rate: u64,
 }
 
-#[derive(Clone, Copy)]
-pub enum NodeMade {
-    Made(Node),
-    // The row of document 01's table of refusals: 7, 8 or 9.
-    Refused(u64),
-}
-
 fn delay_wrong(leaf: bool, delay: usize) -> bool
     ensures { result ≡ delay_wrong leaf delay }
 {
     if leaf {
-        return Node::LONGEST_DELAY < delay;
+        Node::LONGEST_DELAY < delay
+    } else {
+        delay != 0
     }
-    delay != 0
 }
 
 impl Node {
@@ -83,35 +91,26 @@ impl Node {
     pub const GREATEST_RATE: u64 = Node::GREATEST_MEMORY;
     // Bytes that a record takes in a job.
     pub const WIDTH: usize = 19;
-    // Refusals of a record.
-    pub const BAD_PARENT: u64 = 7;
-
-    pub const BAD_DELAY: u64 = 8;
-
-    pub const LARGE_MEMORY: u64 = 9;
 
     // Node `number` of a tree, where it is known whether that is a leaf.
-    pub fn new(number: usize, leaf: bool, node: Node) -> NodeMade
-        ensures made { result ≡ new_node number leaf node }
-        ensures number { node_number result ≡ node_refusal number leaf node }
+    pub fn new(number: usize, leaf: bool, node: Node) -> Result<Node, Refusal>
+        ensures { Gives result (node_refusal number leaf node) node }
     {
         if number <= node.parent {
-            return NodeMade::Refused(Node::BAD_PARENT);
+            return Err(Refusal::BadParent);
         }
         if delay_wrong(leaf, node.delay) {
-            return NodeMade::Refused(Node::BAD_DELAY);
+            return Err(Refusal::BadDelay);
         }
-        if Node::GREATEST_MEMORY < node.memory {
-            return NodeMade::Refused(Node::LARGE_MEMORY);
+        if Node::GREATEST_MEMORY < node.memory || Node::GREATEST_RATE < node.rate {
+            return Err(Refusal::LargeMemory);
         }
-        if Node::GREATEST_RATE < node.rate {
-            return NodeMade::Refused(Node::LARGE_MEMORY);
-        }
-        NodeMade::Made(node)
+        Ok(node)
     }
 }
 
-// A job without its frames, which stay in the bytes. Place i of each array is node i's; places without a record have 0.
+// A job without its frames, which stay in the bytes. Place i of each array is node i's; places without a record have 0. Fixed arrays, as
+// the library has no heap. That they hold a tree is asked in clauses and is no ghost field, as `leaves` and `children` take any parents.
 #[derive(Clone, Copy)]
 pub struct Job {
     pub nodes: usize,
@@ -120,13 +119,6 @@ pub struct Job {
     pub delay: [usize; Job::MOST_NODES],
     pub memory: [u64; Job::MOST_NODES],
     pub rate: [u64; Job::MOST_NODES],
-}
-
-// A refusal with its number, and then the job is all 0; or 0 and the job.
-#[derive(Clone, Copy)]
-pub struct Reading {
-    pub refusal: u64,
-    pub job: Job,
 }
 
 fn empty(nodes: usize, frames: usize) -> Job
@@ -139,15 +131,6 @@ fn empty(nodes: usize, frames: usize) -> Job
         delay: [0usize; Job::MOST_NODES],
         memory: [0u64; Job::MOST_NODES],
         rate: [0u64; Job::MOST_NODES],
-    }
-}
-
-fn refused(refusal: u64) -> Reading
-    ensures { result ≡ refused_with refusal }
-{
-    Reading {
-        refusal,
-        job: empty(0, 0),
     }
 }
 
@@ -167,159 +150,109 @@ impl Job {
     pub const VERSION: u64 = 1;
     // Bytes before the first record.
     pub const HEADER: usize = 10;
-    // Refusals of a job's bytes as a whole, and of what is lent beside them.
-    pub const SHORT: u64 = 1;
-
-    pub const BAD_MARK: u64 = 2;
-
-    pub const BAD_VERSION: u64 = 3;
-
-    pub const BAD_NODES: u64 = 4;
-
-    pub const BAD_FRAMES: u64 = 5;
-
-    pub const BAD_LENGTH: u64 = 6;
-
-    pub const BAD_LENT: u64 = 11;
 
     // A job of these counts, its records still empty; or the refusal of a count.
-    pub fn new(nodes: usize, frames: usize) -> Reading
-        ensures { result ≡ new_job nodes frames }
+    pub fn new(nodes: usize, frames: usize) -> Result<Job, Refusal>
+        ensures { Gives result (size_refusal nodes frames) (struct_of (bare_tree nodes) frames) }
     {
-        if nodes < Job::FEWEST_NODES {
-            return refused(Job::BAD_NODES);
+        if nodes < Job::FEWEST_NODES || Job::MOST_NODES < nodes {
+            return Err(Refusal::BadNodes);
         }
-        if Job::MOST_NODES < nodes {
-            return refused(Job::BAD_NODES);
+        if frames < Job::FEWEST_FRAMES || Job::MOST_FRAMES < frames {
+            return Err(Refusal::BadFrames);
         }
-        if frames < Job::FEWEST_FRAMES {
-            return refused(Job::BAD_FRAMES);
-        }
-        if Job::MOST_FRAMES < frames {
-            return refused(Job::BAD_FRAMES);
-        }
-        Reading {
-            refusal: 0,
-            job: empty(nodes, frames),
-        }
+        Ok(empty(nodes, frames))
     }
 
     // The nodes that are somebody's parent. Parents may be any numbers here: the reader asks before it has tested them.
-    fn inner_nodes(self) -> u64
-        requires { (fewest_nodes ≤ self.nodes) × (self.nodes ≤ most_nodes) }
-        ensures { InnerNodes (tree_in self) result }
+    fn inner_nodes(&self) -> u64
+        requires { (fewest_nodes ≤ self.now.nodes) × (self.now.nodes ≤ most_nodes) }
+        ensures { InnerNodes (tree_in self.now) result }
     {
-        let nodes = self.nodes;
-        let parent = self.parent;
-        let mut set: u64 = 0;
-        let mut i = 1;
-        while i < nodes {
-            set = base::with(set, parent[i]);
-            i += 1;
+        let mut set = 0;
+        for i in 1..self.nodes {
+            set = base::with(set, self.parent[i]);
         }
         set
     }
 
     // The leaves.
-    pub fn leaves(self) -> u64
-        requires { (fewest_nodes ≤ self.nodes) × (self.nodes ≤ most_nodes) }
-        ensures { (k : ℕ) → has result k ≡ leaf (tree_in self) k }
+    pub fn leaves(&self) -> u64
+        requires { (fewest_nodes ≤ self.now.nodes) × (self.now.nodes ≤ most_nodes) }
+        ensures { (k : ℕ) → has result k ≡ leaf (tree_in self.now) k }
     {
-        let nodes = self.nodes;
         let inner = self.inner_nodes();
-        let mut set: u64 = 0;
-        let mut i = 0;
-        while i < nodes {
+        let mut set = 0;
+        for i in 0..self.nodes {
             if !base::member(inner, i) {
                 set = base::with(set, i);
             }
-            i += 1;
         }
         set
     }
 
     // The children of node a.
-    pub fn children(self, a: usize) -> u64
-        requires { (fewest_nodes ≤ self.nodes) × (self.nodes ≤ most_nodes) }
-        ensures { (k : ℕ) → has result k ≡ child (tree_in self) k a }
+    pub fn children(&self, a: usize) -> u64
+        requires { (fewest_nodes ≤ self.now.nodes) × (self.now.nodes ≤ most_nodes) }
+        ensures { (k : ℕ) → has result k ≡ child (tree_in self.now) k a }
     {
-        let nodes = self.nodes;
-        let parent = self.parent;
-        let mut set: u64 = 0;
-        let mut i = 1;
-        while i < nodes {
-            if parent[i] == a {
+        let mut set = 0;
+        for i in 1..self.nodes {
+            if self.parent[i] == a {
                 set = base::with(set, i);
             }
-            i += 1;
         }
         set
     }
 
     // The nodes below node a.
-    pub fn below(self, a: usize) -> u64
-        requires { TreeWithin (tree_in self) }
-        ensures { (k : ℕ) → has result k ≡ below (tree_in self) k a }
+    pub fn below(&self, a: usize) -> u64
+        requires { TreeWithin (tree_in self.now) }
+        ensures { (k : ℕ) → has result k ≡ below (tree_in self.now) k a }
     {
-        let nodes = self.nodes;
-        let parent = self.parent;
-        let mut set: u64 = 0;
-        let mut i = 1;
-        while i < nodes {
-            if joins(set, parent[i], a) {
+        let mut set = 0;
+        for i in 1..self.nodes {
+            if self.parent[i] == a || base::member(set, self.parent[i]) {
                 set = base::with(set, i);
             }
-            i += 1;
         }
         set
     }
 
     // The leaves at or below node a.
-    pub fn leaves_at(self, a: usize) -> u64
-        requires { TreeWithin (tree_in self) }
-        ensures { (k : ℕ) → has result k ≡ leaf_at (tree_in self) a k }
+    pub fn leaves_at(&self, a: usize) -> u64
+        requires { TreeWithin (tree_in self.now) }
+        ensures { (k : ℕ) → has result k ≡ leaf_at (tree_in self.now) a k }
     {
         base::common(self.leaves(), base::with(self.below(a), a))
     }
 
     // H, the last slot.
-    pub fn last_slot(self) -> usize
-        requires { TreeWithin (tree_in self) × (self.frames ≤ most_frames) }
-        ensures { (frame : ℕ → ℕ) → result ≡ tree.H (job_in self frame) }
+    pub fn last_slot(&self) -> usize
+        requires { TreeWithin (tree_in self.now) × (self.now.frames ≤ most_frames) }
+        ensures { (frame : ℕ → ℕ) → result ≡ tree.H (job_in self.now frame) }
     {
         self.frames + longest(self.leaves(), &self.delay)
     }
 
     // How many numbers a plan has.
-    pub fn plan_length(self) -> usize
-        requires { TreeWithin (tree_in self) × (self.frames ≤ most_frames) }
-        ensures { (frame : ℕ → ℕ) → result ≡ plan_length (job_in self frame) }
+    pub fn plan_length(&self) -> usize
+        requires { TreeWithin (tree_in self.now) × (self.now.frames ≤ most_frames) }
+        ensures { (frame : ℕ → ℕ) → result ≡ plan_length (job_in self.now frame) }
     {
         (self.nodes - 1) * (self.last_slot() + 1)
     }
-}
-
-// Whether a node with this parent is below a, where `set` has the lower nodes that are.
-fn joins(set: u64, parent: usize, a: usize) -> bool
-    ensures { result ≡ (eqb parent a || has set parent) }
-{
-    if parent == a {
-        return true;
-    }
-    base::member(set, parent)
 }
 
 // The greatest of the numbers at the members of a set.
 fn longest(set: u64, delay: &[usize; Job::MOST_NODES]) -> usize
     ensures { result ≡ greatest_over (has set) (λ i. get_or delay.now i 0) word_bits }
 {
-    let mut acc: usize = 0;
-    let mut rest = set;
-    while rest != 0 {
-        acc = base::max_usize(acc, delay[base::lowest(rest)]);
-        rest = base::without_lowest(rest);
+    let mut longest: usize = 0;
+    for i in base::members(set) {
+        longest = longest.max(delay[i]);
     }
-    acc
+    longest
 }
 
 // Where the record of node i stands.
@@ -331,48 +264,43 @@ fn record_place(i: usize) -> usize
 }
 
 // Rows 1 to 3 of the table of refusals.
-fn head_refusal(s: &[u8]) -> u64
-    ensures { result ≡ head_refusal s.now }
+fn check_head(s: &[u8]) -> Result<(), Refusal>
+    ensures { Gives result (head_refusal s.now) tt }
 {
     if s.len() < Job::HEADER {
-        return Job::SHORT;
+        return Err(Refusal::Short);
     }
-    if base::number_at(s, 0, 3) != Job::MARK {
-        return Job::BAD_MARK;
+    if base::number::<3>(s, 0) != Job::MARK {
+        return Err(Refusal::BadMark);
     }
-    if base::number_at(s, 3, 2) != Job::VERSION {
-        return Job::BAD_VERSION;
+    if base::number::<2>(s, 3) != Job::VERSION {
+        return Err(Refusal::BadVersion);
     }
-    0
+    Ok(())
 }
 
-// The job with the parents of its records; the rest of them is still empty.
-fn read_parents(s: &[u8], job: Job) -> Job
+// The job with the parents of its records; the rest of them is still empty. `Sized` is asked of the bytes by each function of the reader: a
+// type of such bytes would be made in `read` alone and be no plainer.
+fn read_parents(s: &[u8], mut job: Job) -> Job
     requires { Sized s.now × (job ≡ empty_job s.now) }
     ensures { result ≡ struct_of (parents_of s.now) (frame_count s.now) }
 {
-    let nodes = job.nodes;
-    let mut out = job;
-    let mut i = 1;
-    while i < nodes {
-        let at = record_place(i);
-        let parent = base::number_at(s, at, 1);
-        out.parent[i] = parent as usize;
-        i += 1;
+    for i in 1..job.nodes {
+        job.parent[i] = base::number::<1>(s, record_place(i)) as usize;
     }
-    out
+    job
 }
 
-// Node i as its record has it, made or refused.
-fn read_node(s: &[u8], i: usize, leaf: bool) -> NodeMade
+// Node i as its record has it, or its refusal.
+fn read_node(s: &[u8], i: usize, leaf: bool) -> Result<Node, Refusal>
     requires { Sized s.now × ((0 < i) × (i < node_count s.now)) }
-    ensures { result ≡ new_node i leaf (node_at s.now i) }
+    ensures { Gives result (node_refusal i leaf (node_at s.now i)) (node_at s.now i) }
 {
     let at = record_place(i);
-    let parent = base::number_at(s, at, 1);
-    let delay = base::number_at(s, at + 1, 2);
-    let memory = base::number_at(s, at + 3, 8);
-    let rate = base::number_at(s, at + 11, 8);
+    let parent = base::number::<1>(s, at);
+    let delay = base::number::<2>(s, at + 1);
+    let memory = base::number::<8>(s, at + 3);
+    let rate = base::number::<8>(s, at + 11);
     Node::new(
         i,
         leaf,
@@ -385,149 +313,103 @@ fn read_node(s: &[u8], i: usize, leaf: bool) -> NodeMade
     )
 }
 
-// The earlier of two rows of the table of refusals, where 0 stands for none.
-fn earlier(a: u64, b: u64) -> u64
-    ensures { result ≡ sooner a b }
+// The earlier in the table: of the refusal of the nodes before, if there is one, and that of the next node.
+fn earlier(before: Option<Refusal>, next: Refusal) -> Refusal
+    ensures { number result ≡ sooner (row_of before) (number next) }
 {
-    if a == 0 {
-        return b;
+    match before {
+        Some(first) => first.min(next),
+        None => next,
     }
-    if b == 0 {
-        return a;
-    }
-    base::min(a, b)
 }
 
-// The job with its records, or the first of rows 7 to 9, whichever node it is at.
-fn read_nodes(s: &[u8], job: Job, inner: u64) -> Reading
-    requires { Sized s.now × ((job ≡ empty_job s.now) × InnerNodes (tree_of s.now) inner) }
-    ensures { result ≡ refused_or (nodes_refusal (tree_of s.now)) (full_job s.now) }
+// The job, which has its parents, with the rest of its records; or the first of rows 7 to 9, whichever node it is at.
+fn read_nodes(s: &[u8], mut job: Job, inner: u64) -> Result<Job, Refusal>
+    requires { Sized s.now × ((job ≡ struct_of (parents_of s.now) (frame_count s.now))
+        × InnerNodes (tree_of s.now) inner) }
+    ensures { Gives result (nodes_refusal (tree_of s.now)) (full_job s.now) }
 {
-    let nodes = job.nodes;
-    let mut out = job;
-    let mut refusal: u64 = 0;
-    let mut i = 1;
-    while i < nodes {
+    let mut refused: Option<Refusal> = None;
+    for i in 1..job.nodes {
         match read_node(s, i, !base::member(inner, i)) {
-            NodeMade::Made(node) => {
-                out.parent[i] = node.parent;
-                out.delay[i] = node.delay;
-                out.memory[i] = node.memory;
-                out.rate[i] = node.rate;
+            Ok(node) => {
+                job.delay[i] = node.delay;
+                job.memory[i] = node.memory;
+                job.rate[i] = node.rate;
             }
-            NodeMade::Refused(row) => {
-                refusal = earlier(refusal, row);
+            Err(row) => {
+                refused = Some(earlier(refused, row));
             }
         }
-        i += 1;
     }
-    if refusal != 0 {
-        return refused(refusal);
-    }
-    Reading {
-        refusal: 0,
-        job: out,
+    match refused {
+        Some(row) => Err(row),
+        None => Ok(job),
     }
 }
 
-// Whether some frame is too large.
+// Whether some frame is too large. All are looked at: the compiler doesn't put a loop that stops at the first into vectors, so that it
+// takes half as long again where none is.
 fn some_frame_wrong(s: &[u8], nodes: usize, frames: usize) -> bool
     requires { Sized s.now × ((nodes ≡ node_count s.now) × (frames ≡ frame_count s.now)) }
     ensures { result ≡ some (λ m. frame_wrong (frame_at s.now m)) (frame_count s.now) }
 {
-    let mut at = record_place(nodes);
-    let mut m = 0;
-    while m < frames {
-        match Frame::new(base::number4_at(s, at)) {
-            FrameMade::TooLarge => {
-                return true;
-            }
-            FrameMade::Made(_) => {}
-        }
-        at += Frame::WIDTH;
-        m += 1;
+    let at = record_place(nodes);
+    let mut wrong = false;
+    for m in 0..frames {
+        wrong |= Frame::new(base::number::<4>(s, at + Frame::WIDTH * m)).is_err();
     }
-    false
+    wrong
 }
 
-// Rows 7 to 10, of a job whose counts and length are right. The frames are looked at even where a record is refused: after that test the
-// compiler takes their loop for one that is seldom reached and doesn't align it, and it may take twice as long.
-fn read_rest(s: &[u8], job: Job) -> Reading
+// Rows 7 to 10, of a job whose counts and length are right.
+fn read_rest(s: &[u8], job: Job) -> Result<Job, Refusal>
     requires { Sized s.now × (job ≡ empty_job s.now) }
-    ensures { result ≡ refused_or (rest_refusal s.now) (full_job s.now) }
+    ensures { Gives result (rest_refusal s.now) (full_job s.now) }
 {
-    let inner = read_parents(s, job).inner_nodes();
-    let read = read_nodes(s, job, inner);
-    let large = some_frame_wrong(s, job.nodes, job.frames);
-    if read.refusal != 0 {
-        return read;
+    let job = read_parents(s, job);
+    let full = read_nodes(s, job, job.inner_nodes())?;
+    if some_frame_wrong(s, job.nodes, job.frames) {
+        return Err(Refusal::LargeFrame);
     }
-    if large {
-        return refused(Frame::LARGE_FRAME);
-    }
-    read
+    Ok(full)
 }
 
 // The job that any bytes say, or their refusal.
-pub fn read(s: &[u8]) -> Reading
-    ensures { result ≡ read_of s.now }
+pub fn read(s: &[u8]) -> Result<Job, Refusal>
+    ensures { Reads result s.now }
 {
-    let head = head_refusal(s);
-    if head != 0 {
-        return refused(head);
-    }
-    let nodes = base::number_at(s, 5, 1);
-    let frames = base::number_at(s, 6, 4);
-    let sized = Job::new(nodes as usize, frames as usize);
-    if sized.refusal != 0 {
-        return sized;
-    }
-    let job = sized.job;
+    check_head(s)?;
+    let nodes = base::number::<1>(s, 5);
+    let frames = base::number::<4>(s, 6);
+    let job = Job::new(nodes as usize, frames as usize)?;
     if s.len() != record_place(job.nodes) + Frame::WIDTH * job.frames {
-        return refused(Job::BAD_LENGTH);
+        return Err(Refusal::BadLength);
     }
     read_rest(s, job)
 }
 
-// The number of the refusal alone.
-pub fn refusal(s: &[u8]) -> u64
-    ensures { result ≡ refusal s.now }
-{
-    read(s).refusal
-}
-
-// What the lengths of outputs follow from: n, M, H and the plan's length; or a refusal with its number, and then each is 0. In C too.
-#[repr(C)]
+// What the lengths of outputs follow from: n, M, H and the plan's length.
 #[derive(Clone, Copy)]
-pub struct JobSizes {
-    pub number: u64,
+pub struct Sizes {
     pub nodes: usize,
     pub frames: usize,
     pub last_slot: usize,
     pub plan_length: usize,
 }
 
-// The sizes of the job that any bytes say, or their refusal.
-pub fn sizes(s: &[u8]) -> JobSizes
-    ensures { result ≡ sizes_of s.now }
-{
-    let read = read(s);
-    if read.refusal != 0 {
-        return JobSizes {
-            number: read.refusal,
-            nodes: 0,
-            frames: 0,
-            last_slot: 0,
-            plan_length: 0,
-        };
-    }
-    let job = read.job;
-    JobSizes {
-        number: 0,
-        nodes: job.nodes,
-        frames: job.frames,
-        last_slot: job.last_slot(),
-        plan_length: job.plan_length(),
+impl Sizes {
+    // The sizes of the job that any bytes say, or their refusal.
+    pub fn read(s: &[u8]) -> Result<Sizes, Refusal>
+        ensures { Gives result (refusal s.now) (sizes_of (job_of s.now)) }
+    {
+        let job = read(s)?;
+        Ok(Sizes {
+            nodes: job.nodes,
+            frames: job.frames,
+            last_slot: job.last_slot(),
+            plan_length: job.plan_length(),
+        })
     }
 }
 
@@ -540,61 +422,67 @@ pub const MIDDLE_ROOM: usize = 16_385;
 
 pub const LONG_ROOM: usize = Job::MOST_FRAMES + 1;
 
-pub fn tiny_room() -> [u64; TINY_ROOM]
-    ensures { length result ≡ tiny_room }
+pub fn room<const N: usize>() -> [u64; N]
+    ensures { length result ≡ N }
 {
-    [0u64; TINY_ROOM]
+    [0u64; N]
 }
 
-pub fn short_room() -> [u64; SHORT_ROOM]
-    ensures { length result ≡ short_room }
-{
-    [0u64; SHORT_ROOM]
+// T(0) to T(M) of a film within the limits.
+#[derive(Clone, Copy)]
+pub struct Sums<'a> {
+    pub t: &'a [u64],
+    ghost film: { FilmSums t.now },
 }
 
-pub fn middle_room() -> [u64; MIDDLE_ROOM]
-    ensures { length result ≡ middle_room }
-{
-    [0u64; MIDDLE_ROOM]
+impl<'a> Sums<'a> {
+    // T(M).
+    pub fn total(&self) -> u64
+        ensures { result ≡ last_in self.now.t.now }
+    {
+        self.t[self.t.len() - 1]
+    }
 }
 
-pub fn long_room() -> [u64; LONG_ROOM]
-    ensures { length result ≡ long_room }
-{
-    [0u64; LONG_ROOM]
+// A job within the limits, with the sums of its film.
+#[derive(Clone, Copy)]
+pub struct Film<'a> {
+    pub job: &'a Job,
+    pub sums: Sums<'a>,
+    ghost with_sums: { WithSums job.now sums.t.now },
 }
 
-// T(0) to T(M) of an accepted job, in a room that has place for them: the part of it that has them.
-pub fn sums<'a, 'b>(bytes: &'b [u8], job: Job, room: &'a mut [u64]) -> &'a mut [u64]
-    requires { Accepted bytes.now job × (job.frames < length room.old) }
-    ensures { result.now ≡ sums_of bytes.now }
-{
-    let count = job.frames + 1;
-    write_sums(bytes, &mut room[0..count]);
-    &mut room[0..count]
+impl<'a> Film<'a> {
+    // The film of an accepted job, its sums in a room that has place for them.
+    pub fn read(bytes: &[u8], job: &'a Job, room: &'a mut [u64]) -> Film<'a>
+        requires { Accepted bytes.now job.now × (job.now.frames < length room.old) }
+        ensures sums { result.sums.t.now ≡ sums_of bytes.now }
+        ensures job { result.job.now ≡ job.now }
+    {
+        let count = job.frames + 1;
+        write_sums(bytes, &mut room[..count]);
+        let sums = Sums { t: &room[..count] };
+        Film { job, sums }
+    }
 }
 
-// T(0) to T(M) of an accepted job, one after the other.
+// T(0) to T(M) of an accepted job, one after the other; by m, as a frame's place in the bytes follows from it.
 fn write_sums(s: &[u8], out: &mut [u64])
     requires { (refusal s.now ≡ 0) × (length out.old ≡ frame_count s.now + 1) }
     ensures { out.new ≡ sums_of s.now }
 {
-    let nodes = base::number_at(s, 5, 1);
-    let frames = out.len() - 1;
-    let mut at = record_place(nodes as usize);
-    let mut total: u64 = 0;
-    let mut m = 0;
+    let nodes = base::number::<1>(s, 5);
+    let at = record_place(nodes as usize);
+    let mut total = 0;
     out[0] = 0;
-    while m < frames {
-        total += base::number4_at(s, at);
-        at += Frame::WIDTH;
-        m += 1;
-        out[m] = total;
+    for m in 0..out.len() - 1 {
+        total += base::number::<4>(s, at + Frame::WIDTH * m);
+        out[m + 1] = total;
     }
 }
 
-// Every bound at once. Each is the constant of its type, and the number that specs/Limits has; so is each refusal, whose number
-// specs/Refusal has.
+// Every bound at once. Each is the constant of its type, and the number that specs/Limits has; so is the length of each room, which
+// specs/Sums has.
 #[derive(Clone, Copy)]
 pub struct Limits {
     pub fewest_nodes: usize,
@@ -618,17 +506,10 @@ impl Limits {
         ensures greatest_memory { Node.GREATEST_MEMORY ≡ limit.greatest_memory }
         ensures greatest_rate { Node.GREATEST_RATE ≡ limit.greatest_rate }
         ensures greatest_frame { Frame.GREATEST ≡ limit.greatest_frame }
-        ensures short { Job.SHORT ≡ refused.short }
-        ensures bad_mark { Job.BAD_MARK ≡ refused.bad_mark }
-        ensures bad_version { Job.BAD_VERSION ≡ refused.bad_version }
-        ensures bad_nodes { Job.BAD_NODES ≡ refused.bad_nodes }
-        ensures bad_frames { Job.BAD_FRAMES ≡ refused.bad_frames }
-        ensures bad_length { Job.BAD_LENGTH ≡ refused.bad_length }
-        ensures bad_parent { Node.BAD_PARENT ≡ refused.bad_parent }
-        ensures bad_delay { Node.BAD_DELAY ≡ refused.bad_delay }
-        ensures large_memory { Node.LARGE_MEMORY ≡ refused.large_memory }
-        ensures large_frame { Frame.LARGE_FRAME ≡ refused.large_frame }
-        ensures bad_lent { Job.BAD_LENT ≡ refused.bad_lent }
+        ensures tiny_room { TINY_ROOM ≡ sums.tiny_room }
+        ensures short_room { SHORT_ROOM ≡ sums.short_room }
+        ensures middle_room { MIDDLE_ROOM ≡ sums.middle_room }
+        ensures long_room { LONG_ROOM ≡ sums.long_room }
     {
         Limits {
             fewest_nodes: Job::FEWEST_NODES,

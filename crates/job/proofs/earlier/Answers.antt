@@ -1,13 +1,17 @@
--- Each test answers one row of the chain: past it that row doesn't apply.
-use borrow.Author.Tests.{eq-eqb, ne_eqb}
+-- The enum's order is that of its numbers, by computation.
+use mathlib.Core.Path.{◌≡◌, refl}
+use Rattle.std.specs.Ordering.{ord_min}
+use Rattle.job.specs.Refusal.{number}
+use Rattle.job.specs.Steps.{sooner}
+use Rattle.job.specs.declared.Refusal.{Refusal}
+use Rattle.job.specs.declared.Refusal.TheVariants.{Short}
+use Rattle.job.specs.contracts.RefusalOrd.TheImpl.{cmp-value}
 use Rattle.job.proofs.earlier.Goals as goal
 
-pub returns-then-a-eq0 : goal.returns-then-a-eq0
-returns-then-a-eq0 c = simp (eq-eqb _ _ c.if-a-eq0.true)
+min_is : (first next : Refusal) → number (ord_min cmp-value.it first next) ≡ sooner (number first) (number next)
+min_is Short Short = refl
+min_is first Short = refl
+min_is first next = refl
 
-pub returns-then-b-eq0 : goal.returns-then-b-eq0
-returns-then-b-eq0 c = simp (ne_eqb _ _ c.if-a-eq0.false, eq-eqb _ _ c.if-b-eq0.true)
-
-pub returns : goal.returns
-returns c =
-    simp (ne_eqb _ _ c.if-a-eq0.false, ne_eqb _ _ c.if-b-eq0.false) c.min.ensures
+pub returns-in-Some : goal.returns-in-Some
+returns-in-Some c = rw (c.in-Some.is, c.min.ensures) (min_is c.in-Some.first c.args.next)

@@ -1,33 +1,13 @@
--- The loop keeps that acc is the greatest over the members walked so far.
-use Prim.Native.Nat.{◌<◌}
-use native.Mathlib.Omega.{arith}
-use Rattle.base.specs.Set.{has, word_bits}
-use Rattle.base.specs.Range.{first}
-use Rattle.base.proofs.SetLaws.{first_lt}
-use Rattle.base.proofs.WalkLaws.{walk_start, walk_next, walk_done}
+-- What is left of the members, taken in from the greatest so far on, gives the greatest of all.
+use Rattle.std.proofs.Common.{◌∙◌, arith}
+use Rattle.base.proofs.MemberLaws.{next_in, fold_members}
 use Rattle.job.proofs.longest.Goals as goal
-use Rattle.job.proofs.longest.Goals.{In-loop-rest}
 
-pub loop-rest-init : goal.loop-rest-init
-loop-rest-init c = walk_start _ _ _ (omega arith)
+pub offset_bounds-delay-i : goal.offset_bounds-delay-i
+offset_bounds-delay-i c = omega (arith, (next_in _ _ _ c.in-Some.ensures.steps).0)
 
-low : (c : In-loop-rest) → first (has c.loop-rest.rest) word_bits < word_bits
-low c = first_lt c.loop-rest.rest c.loop-rest.invariant.fits (omega arith)
-
-pub offset_bounds-delay-lowest : goal.offset_bounds-delay-lowest
-offset_bounds-delay-lowest c = omega (arith, low (goal.at.offset_bounds-delay-lowest c).In-loop-rest, c.lowest.ensures)
-
-pub bounds-delay-lowest : goal.bounds-delay-lowest
-bounds-delay-lowest c = omega (arith, low (goal.at.bounds-delay-lowest c).In-loop-rest, c.lowest.ensures)
-
-pub loop-rest-smaller : goal.loop-rest-smaller
-loop-rest-smaller c = omega (arith, c.without_lowest-rest.ensures.1)
-
-pub loop-rest-preserved : goal.loop-rest-preserved
-loop-rest-preserved c =
-    let s = c.loop-rest in
-    rw (c.max_usize-acc.ensures, c.lowest.ensures)
-    (walk_next _ _ _ s.rest c.without_lowest-rest.result s.acc s.invariant (omega arith) c.without_lowest-rest.ensures.1 c.without_lowest-rest.ensures.0)
+pub bounds-delay-i : goal.bounds-delay-i
+bounds-delay-i c = omega (arith, (next_in _ _ _ c.in-Some.ensures.steps).0)
 
 pub returns : goal.returns
-returns c = walk_done _ _ _ _ (rw c.loop-rest-test.false at c.loop-rest.invariant)
+returns c = (rw c.in-None.ensures.steps.0 at c.loop-i.invariant) ∙ fold_members _ _ c.args.set

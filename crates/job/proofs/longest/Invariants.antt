@@ -1,10 +1,12 @@
-use Prim.Native.Nat.{max}
-use lib.ListN.{get_or}
-use Rattle.base.proofs.WalkLaws.{Walked}
+use Rattle.std.proofs.Common.{◌≡◌, ℕ, List, max, get_or}
+use Rattle.std.specs.List.{fold}
+use Rattle.base.specs.Set.{members}
+use Rattle.base.specs.Walk.{walk_left}
 use Rattle.job.proofs.longest.Given as goal
 
-abbrev pub invariant-loop-rest : goal.invariant-loop-rest
-invariant-loop-rest l = Walked (λ g i. max g (get_or l.delay i 0)) 0 l.set l.rest l.acc
+-- a member's number is taken in
+abbrev pub longer : List ℕ → ℕ → ℕ → ℕ
+longer numbers g i = max g (get_or numbers i 0)
 
-abbrev pub decreases-loop-rest : goal.decreases-loop-rest
-decreases-loop-rest l = l.rest
+abbrev pub invariant-loop-i : goal.invariant-loop-i
+invariant-loop-i l = fold (longer l.delay) l.longest (walk_left l.i-iterator) ≡ fold (longer l.delay) 0 (members l.set)

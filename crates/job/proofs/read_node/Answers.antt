@@ -1,5 +1,4 @@
 -- Each field is read at its place, which lies within the record, and that within the bytes.
-use mathlib.Core.Path.{refl, ◌∙◌}
 use Prim.Native.Nat.{◌+◌, ◌≤◌}
 use native.Mathlib.Omega.{arith}
 use lib.ListN.{length}
@@ -12,21 +11,20 @@ inside : (c : After-record_place-at) → c.record_place-at.result + record_width
 inside c =
     rw c.record_place-at.ensures (record_in c.args.s.now c.requires.0 c.args.i c.requires.1.0 c.requires.1.1)
 
-pub number_at-parent-requires : goal.number_at-parent-requires
-number_at-parent-requires c = omega (arith, inside c)
+pub number-parent-requires : goal.number-parent-requires
+number-parent-requires c = omega (arith, inside c)
 
-pub number_at-delay-requires : goal.number_at-delay-requires
-number_at-delay-requires c = omega (arith, inside (goal.at.number_at-delay-requires c).After-record_place-at)
+pub number-delay-requires : goal.number-delay-requires
+number-delay-requires c = omega (arith, inside (goal.at.number-delay-requires c).After-record_place-at)
 
-pub number_at-memory-requires : goal.number_at-memory-requires
-number_at-memory-requires c = omega (arith, inside (goal.at.number_at-memory-requires c).After-record_place-at)
+pub number-memory-requires : goal.number-memory-requires
+number-memory-requires c = omega (arith, inside (goal.at.number-memory-requires c).After-record_place-at)
 
-pub number_at-rate-requires : goal.number_at-rate-requires
-number_at-rate-requires c = omega (arith, inside (goal.at.number_at-rate-requires c).After-record_place-at)
+pub number-rate-requires : goal.number-rate-requires
+number-rate-requires c = omega (arith, inside (goal.at.number-rate-requires c).After-record_place-at)
 
 pub returns : goal.returns
 unfolding parent_at delay_at memory_at rate_at
 returns c =
     let p = c.record_place-at.ensures in
-    c.new.ensures.made
-    ∙ rw (c.number_at-parent.ensures.0, c.number_at-delay.ensures.0, c.number_at-memory.ensures.0, c.number_at-rate.ensures.0, p) refl
+    rw (c.number-parent.ensures.0, c.number-delay.ensures.0, c.number-memory.ensures.0, c.number-rate.ensures.0, p) at c.new.ensures

@@ -1,11 +1,7 @@
-use Prim.Native.Nat.{◌-◌, ◌≤◌, ◌<◌}
 use Rattle.base.proofs.CollectLaws.{Collected}
-use Rattle.job.proofs.TreeLaws.{shape}
+use Rattle.job.specs.Read.{tree_in}
 use Rattle.job.specs.Tree.{child}
 use Rattle.job.proofs.Job.children.Given as goal
 
 abbrev pub invariant-loop-i : goal.invariant-loop-i
-invariant-loop-i l = (0 < l.i) × ((l.i ≤ l.nodes) × Collected (λ k. child (shape l.nodes l.parent) k l.a) l.i l.set)
-
-abbrev pub decreases-loop-i : goal.decreases-loop-i
-decreases-loop-i l = l.nodes - l.i
+invariant-loop-i l = Collected (λ k. child (tree_in l.self) k l.a) l.i l.set

@@ -8,4 +8,4 @@ pub returns : goal.returns
 returns c = λ l.
     c.common.ensures l
     ∙ rw (c.leaves.ensures l, c.with.ensures l, c.below.ensures l)
-    (at_word (tree_in c.args.self) c.requires c.args.a l)
+    (at_word (tree_in c.args.self.now) c.requires c.args.a l)

@@ -11,10 +11,10 @@ use Rattle.job.proofs.Job.plan_length.Goals.{After-last_slot}
 
 last : (c : After-last_slot) → c.last_slot.result ≤ most_frames + longest_delay
 last c =
-    rw (c.last_slot.ensures (λ i. 0)) (H-fits (job_in c.args.self (λ i. 0)) c.requires.0 c.requires.1)
+    rw (c.last_slot.ensures (λ i. 0)) (H-fits (job_in c.args.self.now (λ i. 0)) c.requires.0 c.requires.1)
 
 is : (c : After-last_slot) (frame : ℕ → ℕ)
-    → (c.args.self.nodes - 1) * (c.last_slot.result + 1) ≡ plan_length (job_in c.args.self frame)
+    → (c.args.self.now.nodes - 1) * (c.last_slot.result + 1) ≡ plan_length (job_in c.args.self.now frame)
 unfolding plan_length
 is c frame = rw (c.last_slot.ensures frame) refl
 
@@ -23,7 +23,7 @@ overflow_add-result c = omega (arith, last c)
 
 pub overflow_mul-result : goal.overflow_mul-result
 overflow_mul-result c =
-    record { fits = omega (arith, rw (← (is c (λ i. 0))) at (plan_length-fits (job_in c.args.self (λ i. 0)) c.requires.0 c.requires.1)) }
+    record { fits = omega (arith, rw (← (is c (λ i. 0))) at (plan_length-fits (job_in c.args.self.now (λ i. 0)) c.requires.0 c.requires.1)) }
 
 pub returns : goal.returns
 returns c = is c

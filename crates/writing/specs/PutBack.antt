@@ -1,11 +1,12 @@
 -- Document 01, 'To put an answer back': w as every leaf's delay and the memories given written into the job bytes, all else as it was.
-use Rattle.std.specs.Prelude.{Bool, cond, not, List, ◌≡◌, ℕ, zero, suc, ◌+◌, ◌-◌, ◌/◌, ◌%◌, eqb, ltb, length, get_or, set}
+use Rattle.std.specs.Prelude.{Bool, cond, not, List, Result, Ok, Err, ◌≡◌, ℕ, zero, suc, ◌+◌, ◌-◌, ◌/◌, ◌%◌, eqb, ltb, length, get_or, set}
 use Rattle.base.specs.Range.{fold, some}
 use Rattle.base.specs.Set.{has}
 use Rattle.job.specs.Limits.{longest_delay, greatest_memory}
 use Rattle.job.specs.Tree.{Tree, JobData, link, leaf}
 use Rattle.job.specs.Bytes.{record_place, node_count, per_node, tree_of, job_of}
-use Rattle.job.specs.Refusal.{bad_delay, large_memory, bad_lent, refusal}
+use Rattle.job.specs.declared.Refusal.{Refusal}
+use Rattle.job.specs.Refusal.{number, bad_delay, large_memory, bad_lent, refusal}
 use Rattle.job.specs.Steps.{or_else}
 
 -- s with the number x in the `width` bytes from `place` on, the most significant first
@@ -58,13 +59,14 @@ put_back_refusal s w memories =
     (cond (not (eqb (length memories) (node_count s - 1))) bad_lent
     0)))
 
--- What putting back gives for bytes s, a delay w and a lent list: the number r, and the bytes after it. r is the first refusal that applies,
--- and the bytes are as before; or 0, the answer is put back, and the bytes are those of the answered job.
-abbrev pub Puts : List ℕ → ℕ → List ℕ → ℕ → List ℕ → Type 0
-Puts s w memories r after =
-    (r ≡ put_back_refusal s w memories)
-    × ((after ≡ cond (eqb r 0) (put_back s w (memories_in memories)) s)
-    × (r ≡ 0 → (refusal after ≡ 0) × (job_of after ≡ answered_job (job_of s) w (memories_in memories))))
+-- What putting back gives for bytes s, a delay w and a lent list, and the bytes after it. The first refusal that applies, and the bytes are
+-- as before; or none applies, the answer is put back, and the bytes are those of the answered job.
+abbrev pub Puts : List ℕ → ℕ → List ℕ → Result (Unit {0}) Refusal → List ℕ → Type 0
+Puts s w memories (Err e) after = (number e ≡ put_back_refusal s w memories) × (after ≡ s)
+Puts s w memories (Ok done) after =
+    (put_back_refusal s w memories ≡ 0)
+    × ((after ≡ put_back s w (memories_in memories))
+    × ((refusal after ≡ 0) × (job_of after ≡ answered_job (job_of s) w (memories_in memories))))
 
 -- what `put_records` is handed: an accepted job, its node count and its leaves, and a memory for each node 1 to n-1
 pub record Puttable (s : List ℕ) (nodes leaves : ℕ) (memories : List ℕ) : Type 0 where

@@ -1,46 +1,24 @@
--- Laws for closing rows: a row filled in the midst of others, and one turn of each pass.
+-- Laws for closing rows: one turn of each pass, and the row of a link, closed.
 use Prim.Native.Nat.{ℕ, zero, suc, ◌+◌, ◌-◌, ◌*◌, ◌≤◌, ◌<◌, max}
 use mathlib.Core.Bool.{cond}
 use mathlib.Core.Path.{◌≡◌, refl, ap, ap₂, sym, ◌∙◌}
-use mathlib.Core.List.{List, ◌∷◌, ◌++◌, append_assoc}
-use native.Mathlib.Nat.{add-zero, add-suc, suc-mul}
-use native.Mathlib.Numerals.{add-one}
+use mathlib.Core.List.{List, ◌++◌}
+use native.Mathlib.Nat.{suc-mul}
 use native.Mathlib.Omega.{arith}
 use native.Mathlib.Decide.{ℕ_discrete}
 use borrow.Author.Tests.{eq-eqb, ne_eqb, lt-ltb}
 use lib.Dec.{eqb}
-use lib.ListN.{length, take, drop, get_or, set, length-append, take-append-drop}
-use lib.Seq.{drop-cons, set_at, length-take-le, get_or-take, get_or-drop}
+use lib.ListN.{length, take, drop, get_or}
+use lib.Seq.{get_or-take, get_or-drop}
 use Rattle.base.specs.Table.{tab}
 use Rattle.base.proofs.TableLaws.{length-tab, get_or-tab, tab_cong, tab_of_list, length_part, row_end}
-use Rattle.base.proofs.PartLaws.{part_after}
 use Rattle.smoothing.specs.Tree.{Tree, Link, Ordered, put, unless_root, turn_down, pass_up, pass_down, close_up, close_down, close}
 use Rattle.smoothing.specs.Lists.{rows_in}
 use Rattle.smoothing.proofs.PassLaws.{put_other, unless_root_root, unless_root_inner, pass_down_at}
 use Rattle.smoothing.proofs.LoopLaws.{pass_up_turn_rows, rows_in_replace}
 use Rattle.rows.specs.Row.{row_in}
 use Rattle.rows.specs.Closing.{slot_in, with_part, lent_row, Due}
-
--- ---- a row filled in the midst of others
-
-module _ (f : ℕ → ℕ) (a : ℕ) (l : List ℕ) where
-  pub part_none : l ≡ with_part f a 0 l
-  unfolding tab
-  part_none = rw add-zero (sym (take-append-drop a l))
-
-  pub part_more : (k : ℕ) (p : List ℕ) → p ≡ with_part f a k l → a + k < length l → set p (a + k) (f k) ≡ with_part f a (k + 1) l
-  unfolding tab
-  part_more k p e h =
-      let n : length (take a l ++ tab f k) ≡ a + k = length-append (take a l) (tab f k) ∙ rw (length-take-le a l (omega arith), length-tab f k) in
-      let rest = drop (suc (a + k)) l in
-      let split : p ≡ (take a l ++ tab f k) ++ (get_or l (a + k) 0 ∷ rest) =
-      e ∙ rw (drop-cons l (a + k) 0 h) (sym (append_assoc (take a l) (tab f k) (get_or l (a + k) 0 ∷ rest))) in
-      let joined : (take a l ++ tab f k) ++ (f k ∷ rest) ≡ with_part f a (k + 1) l =
-      append_assoc (take a l) (tab f k) (f k ∷ rest) ∙ rw (add-one, add-suc, append_assoc) in
-      ap (λ (q : List ℕ). set q (a + k) (f k)) split ∙ set_at (take a l ++ tab f k) (get_or l (a + k) 0) rest (f k) (a + k) n ∙ joined
-
-  pub part_rest : (k : ℕ) (p : List ℕ) → p ≡ with_part f a k l → a + k ≤ length l → (i : ℕ) → a + k ≤ i → get_or p i 0 ≡ get_or l i 0
-  part_rest k p e h i j = ap (λ (q : List ℕ). get_or q i 0) e ∙ part_after l (tab f k) a k h (length-tab f k) i j
+use Rattle.rows.specs.declared.Links.{Links}
 
 -- ---- one turn of each pass
 
@@ -69,9 +47,15 @@ pub tab_both : (op : ℕ → ℕ → ℕ) (f g : ℕ → ℕ) (w : ℕ) (p q : L
 tab_both op f g w p q d e =
     rw (d, e, length-tab f w) (tab_cong _ _ w (λ k h. ap₂ op (get_or-tab f w k h) (get_or-tab g w k h)))
 
+-- a link's row lies within the plan
+pub row_fits : (v n w : ℕ) → 0 < v → v < n → (v - 1) * w + w ≤ (n - 1) * w
+row_fits v n w p h = row_end (v - 1) (n - 1) w (omega arith)
+
 -- the row of a parent lies before that of its child, and that within the plan
-pub rows_apart : (u v n w : ℕ) → 0 < u → u < v → v < n → ((u - 1) * w + w ≤ (v - 1) * w) × ((v - 1) * w + w ≤ (n - 1) * w)
-rows_apart u v n w p h i = (row_end (u - 1) (v - 1) w (omega arith), row_end (v - 1) (n - 1) w (omega arith))
+pub rows_apart : (s : Links) (v w : ℕ) → Link s.nodes v → let u = get_or s.parent.now v 0 in 0 < u
+    → ((u - 1) * w + w ≤ (v - 1) * w) × ((v - 1) * w + w ≤ (s.nodes - 1) * w)
+rows_apart s v w link inner =
+    (row_end (get_or s.parent.now v 0 - 1) (v - 1) w (omega (arith, s.ordered v link)), row_fits v s.nodes w link.0 link.1)
 
 pub up_turn : (parent : ℕ → ℕ) (op : ℕ → ℕ → ℕ → ℕ) (w : ℕ) (l : List ℕ) (i a b : ℕ) → 0 < i → 0 < parent i → a ≡ (parent i - 1) * w → b ≡ (i - 1) * w
     → a + w ≤ length l → (k : ℕ) → k < w

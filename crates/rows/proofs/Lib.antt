@@ -1,3 +1,4 @@
 pub mod SearchLaws
 pub mod ClosingLaws
+pub mod SplitLaws
 pub mod OpeningLaws

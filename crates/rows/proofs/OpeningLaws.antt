@@ -2,11 +2,11 @@
 use Prim.Native.Nat.{ℕ, ◌+◌, ◌-◌, ◌*◌, ◌≤◌, ◌<◌, min}
 use mathlib.Core.Path.{◌≡◌, refl, ap, ◌∙◌}
 use mathlib.Core.List.{List, ◌++◌}
-use mathlib.Core.Logic.{⊎_elim}
 use native.Mathlib.Nat.{add-zero}
 use native.Mathlib.Omega.{arith}
 use native.Mathlib.Decide.{dec_lt}
-use lib.ListN.{length, take, drop, get_or}
+use lib.ListN.{length, take, drop, get_or, length-append, length-drop}
+use lib.Seq.{length-take-le}
 use Rattle.base.specs.Table.{tab}
 use Rattle.base.proofs.TableLaws.{length-tab, get_or-tab, tab_cong}
 use Rattle.base.proofs.PartLaws.{part_before, part_inside, part_after}
@@ -15,36 +15,29 @@ use Rattle.smoothing.proofs.LoopLaws.{pass_down_turn_rows}
 use Rattle.job.specs.Limits.{greatest_total}
 use Rattle.rows.specs.Row.{row_in, InRange}
 use Rattle.rows.specs.Closing.{slot_in, with_part}
-use Rattle.rows.specs.Opening.{Apart}
-use Rattle.rows.proofs.ClosingLaws.{part_rest, row_at}
+use Rattle.rows.proofs.ClosingLaws.{row_at}
 
 -- ---- a row lowered in the midst of others
 
-module _ (f : ℕ → ℕ) (a b w : ℕ) (l : List ℕ) (apart : Apart a b w l) where
-  -- the other row is as it was
-  pub other_kept : (k : ℕ) (p : List ℕ) → p ≡ with_part f a k l → k < w → get_or p (b + k) 0 ≡ get_or l (b + k) 0
-  other_kept k p e h =
-      ⊎_elim
-      (λ (q : a + w ≤ b). part_rest f a l k p e (omega (arith, apart.first_in)) (b + k) (omega arith))
-      (λ (q : b + w ≤ a). ap (λ (x : List ℕ). get_or x (b + k) 0) e ∙ part_before l (tab f k) a k (omega (arith, apart.first_in)) (length-tab f k) (b + k) (omega arith))
-      apart.no_common
-
 -- numbers that are no more than those in range are in range
-pub part_range : (f : ℕ → ℕ) (a w : ℕ) (l p : List ℕ) → a + w ≤ length l → p ≡ with_part f a w l → length p ≡ length l
+pub part_range : (f : ℕ → ℕ) (a w : ℕ) (l p : List ℕ) → a + w ≤ length l → p ≡ with_part f a w l
     → ((k : ℕ) → k < w → f k ≤ get_or l (a + k) 0) → InRange l → InRange p
-part_range f a w l p h e long below range i q = go (dec_lt i a) (dec_lt i (a + w))
+part_range f a w l p h e below range i q = go (dec_lt i a) (dec_lt i (a + w))
   where
+    long : length p ≡ length l
+    long = rw e (simp (length-append, length-take-le a l (omega arith), length-tab f w, length-drop) (omega arith))
+
     at : get_or p i 0 ≡ get_or (with_part f a w l) i 0
     at = ap (λ (x : List ℕ). get_or x i 0) e
 
     go : Dec (i < a) → Dec (i < a + w) → row_in p i ≤ greatest_total
-    go (yes c) d = omega (arith, at, part_before l (tab f w) a w h (length-tab f w) i c, range i (omega arith))
+    go (yes c) d = omega (arith, at, part_before l (tab f w) a w h (length-tab f w) i c, range i (omega (arith, long)))
     go (no c) (yes d) =
         let k : a + (i - a) ≡ i = omega arith in
         let inside : get_or (with_part f a w l) i 0 ≡ f (i - a) =
         rw k at (part_inside l (tab f w) a w h (length-tab f w) (i - a) (omega arith)) ∙ get_or-tab f w (i - a) (omega arith) in
-        omega (arith, at, inside, rw k at (below (i - a) (omega arith)), range i (omega arith))
-    go (no c) (no d) = omega (arith, at, part_after l (tab f w) a w h (length-tab f w) i (omega arith), range i (omega arith))
+        omega (arith, at, inside, rw k at (below (i - a) (omega arith)), range i (omega (arith, long)))
+    go (no c) (no d) = omega (arith, at, part_after l (tab f w) a w h (length-tab f w) i (omega arith), range i (omega (arith, long)))
 
 -- ---- one turn of the pass down
 

@@ -1,10 +1,12 @@
 -- Laws for the search for a least peak: one look and one pass from what the code computes, and the range of each number.
-use Prim.Native.Nat.{ℕ, zero, suc, ◌+◌, ◌-◌, ◌*◌, ◌/◌, ◌≤◌, ◌<◌, max, min}
-use mathlib.Core.Path.{◌≡◌, ◌∙◌}
+use Prim.Native.Nat.{ℕ, zero, suc, ◌+◌, ◌-◌, ◌*◌, ◌/◌, ◌%◌, ◌≤◌, ◌<◌, max, min}
+use mathlib.Core.Path.{◌≡◌, sym, ◌∙◌}
 use mathlib.Core.Bool.{cond}
 use mathlib.Core.Logic.{⊎_elim}
 use mathlib.Core.List.{List}
-use native.Mathlib.Nat.{mul-le-mul_left}
+use native.Mathlib.Nat.{mul-le-mul_left, div-add-mod', mod-lt, div-eq_of_lt-le, suc-mul}
+use native.Mathlib.Decide.{ℕ_discrete}
+use Rattle.std.specs.Int.{div_ceil}
 use native.Mathlib.Numerals.{add-one}
 use native.Mathlib.Omega.{arith}
 use lib.Dec.{ltb}
@@ -18,6 +20,23 @@ use Rattle.smoothing.proofs.NewtonLaws.{cover_more, cover_below, no_excess}
 use Rattle.rows.specs.Row.{row_in}
 use Rattle.job.specs.Limits.{greatest_total}
 use Rattle.rows.specs.Search.{Searchable}
+
+-- a quotient rounded up, as std's `div_ceil` has it
+pub div_ceil-is : (x d : ℕ) → 0 < d → div_ceil x d ≡ ceil_div x d
+unfolding ceil_div
+div_ceil-is x d h = go (ℕ_discrete (x % d) 0)
+  where
+    parts : x / d * d + x % d ≡ x
+    parts = div-add-mod' x d
+
+    low : x % d < d
+    low = mod-lt x h
+
+    go : Dec (x % d ≡ 0) → x / d + min 1 (x % d) ≡ (x + (d - 1)) / d
+    go (yes e) = rw e (sym (div-eq_of_lt-le d (omega arith) (omega (arith, suc-mul (x / d) d))))
+    go (no ne) =
+        let one : min 1 (x % d) ≡ 1 = omega arith in
+        rw one (sym (div-eq_of_lt-le d (omega (arith, suc-mul (x / d) d)) (omega (arith, suc-mul (x / d) d, suc-mul (x / d + 1) d))))
 
 -- a look, number by number
 pub look_is : (lower upper p : ℕ) (s : Search) (reach gap here excess span : ℕ)
@@ -76,11 +95,12 @@ module _ (l u : List ℕ) (s : Searchable l u) where
         (omega (arith, at.5), (omega (arith, at.2, at.4), omega (arith, at.3, at.4, s.slots_to)))
 
     -- the next peak is higher, and not above the least
-    pub step-peak : 0 < found.excess → let next = p + ceil_div found.excess (found.span * stride) in (p < next) × (next ≤ least)
-    step-peak h = (
-      cover_more (row_in l) (row_in u) (length l - 1) p found.excess (found.span * stride) (attained h) h,
-      cover_below (row_in l) (row_in u) (length l - 1) p found.excess (found.span * stride) (attained h) h,
-    )
+    pub step-peak : 0 < found.excess → let next = p + div_ceil found.excess (found.span * stride) in (p < next) × (next ≤ least)
+    step-peak h =
+        rw (div_ceil-is found.excess (found.span * stride) (step_range h).1.0) (
+          cover_more (row_in l) (row_in u) (length l - 1) p found.excess (found.span * stride) (attained h) h,
+          cover_below (row_in l) (row_in u) (length l - 1) p found.excess (found.span * stride) (attained h) h,
+        )
 
     -- with no excess in any slot the search is at its end
     pub step-done : found.excess ≡ 0 → p ≤ least → stride ≡ 1 → p ≡ least

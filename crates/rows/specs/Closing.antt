@@ -3,7 +3,7 @@ use Rattle.std.specs.Prelude.{ℕ, ◌+◌, ◌-◌, ◌*◌, ◌≤◌, ◌<◌
 use Rattle.base.specs.Table.{tab}
 use Rattle.smoothing.specs.Tree.{Tree, Link, Ordered, pass_up, close_up, close}
 use Rattle.smoothing.specs.Lists.{family_in, rows_in}
-use Rattle.job.specs.Limits.{most_nodes, most_slots}
+use Rattle.job.specs.Limits.{most_slots}
 
 -- the tree that two arrays hold
 abbrev pub tree_from : ℕ → List ℕ → List ℕ → Tree
@@ -34,12 +34,9 @@ with_row v u amount w plan = with_part (λ k. max (rows_in w plan v k) (rows_in 
 unfoldable pub lent_row : ℕ → ℕ → List ℕ → List ℕ → List ℕ → List ℕ
 lent_row nodes w parent closed lent = cond (ltb 1 nodes) (tab (rows_in w closed (family_in parent (nodes - 1))) w) lent
 
--- a plan with a row of `width` numbers for each link of an ordered tree
-pub record Closable (plan parent : List ℕ) (nodes width : ℕ) : Type 0 where
-  pub some_node_lem : 0 < nodes
-  pub nodes_to : nodes ≤ most_nodes
+-- a plan with a row of `width` numbers for each link of so many nodes
+pub record Closable (plan : List ℕ) (nodes width : ℕ) : Type 0 where
   pub width_to : width ≤ most_slots
-  pub ordered : (v : ℕ) → Link nodes v → family_in parent v < v
   pub sized : length plan ≡ (nodes - 1) * width
 
 -- the turn of link v in the pass down, where F k is the family to close at slot k: its row after the pass up, with its parent's

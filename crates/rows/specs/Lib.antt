@@ -2,3 +2,4 @@ pub mod Row
 pub mod Search
 pub mod Closing
 pub mod Opening
+pub mod Links

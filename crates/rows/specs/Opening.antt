@@ -17,7 +17,7 @@ pub record Apart (a b width : ℕ) (l : List ℕ) : Type 0 where
   pub no_common : (a + width ≤ b) ⊎ (b + width ≤ a)
 
 -- a table as closing takes it, whose numbers and memories are in range
-pub record Openable (plan parent memory : List ℕ) (nodes width : ℕ) : Type 0 where
-  pub closable : Closable plan parent nodes width
+pub record Openable (plan memory : List ℕ) (nodes width : ℕ) : Type 0 where
+  pub closable : Closable plan nodes width
   pub in_range : InRange plan
   pub memories : (v : ℕ) → Link nodes v → family_in memory v ≤ greatest_memory

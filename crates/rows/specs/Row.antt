@@ -1,5 +1,5 @@
 -- A row as a list: a number for each slot, from slot 0 on.
-use Rattle.std.specs.Prelude.{ℕ, ◌-◌, ◌≤◌, ◌<◌, max, List, length, get_or}
+use Rattle.std.specs.Prelude.{ℕ, ◌+◌, ◌-◌, ◌≤◌, ◌<◌, max, min, List, length, get_or}
 use Rattle.base.specs.Table.{tab}
 use Rattle.job.specs.Limits.{greatest_total}
 use Rattle.smoothing.specs.Row.{lazy, least_peak}
@@ -23,3 +23,7 @@ least_peak_of lower upper = least_peak (length lower - 1) (row_in lower) (row_in
 -- a row with each number raised to that of another row less an amount
 abbrev pub raised_row : List ℕ → ℕ → List ℕ → List ℕ
 raised_row from amount l = tab (λ k. max (row_in l k) (row_in from k - amount)) (length l)
+
+-- a row with each number lowered to that of another row and an amount
+abbrev pub lowered_row : List ℕ → ℕ → List ℕ → List ℕ
+lowered_row from amount l = tab (λ k. min (row_in l k) (row_in from k + amount)) (length l)

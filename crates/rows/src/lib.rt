@@ -7,11 +7,11 @@ ghost use Rattle.base.specs.Table.{tab};
 ghost use Rattle.smoothing.specs.Row.{ceil_div};
 ghost use Rattle.smoothing.specs.Newton as newton;
 ghost use Rattle.smoothing.specs.Lists.{family_in, rows_in};
-ghost use Rattle.smoothing.specs.Tree.{Tree, pass_up, pass_down, close_down, close, open_up, «open»};
+ghost use Rattle.smoothing.specs.Tree.{Tree, Ordered, pass_up, pass_down, close_down, close, open_up, «open»};
 ghost use Rattle.rows.specs.Closing.{tree_from, AtEachSlot, with_raised, with_row, lent_row, Closable, Due};
 ghost use Rattle.rows.specs.Opening.{with_lowered, Apart, Openable};
-ghost use Rattle.job.specs.Limits.{greatest_total, greatest_memory};
-ghost use Rattle.rows.specs.Row.{lazy_row, raised_row, least_peak_of, InRange};
+ghost use Rattle.job.specs.Limits.{most_nodes, greatest_total, greatest_memory};
+ghost use Rattle.rows.specs.Row.{lazy_row, raised_row, lowered_row, least_peak_of, InRange};
 ghost use Rattle.rows.specs.Search.{search_in, pass_over, longest_stride, Searchable};
 
 use job::Job;
@@ -21,23 +21,11 @@ pub fn lazy_row(lower: &[u64], q: u64, out: &mut [u64])
     requires { (0 < length lower.now) × (length out.old ≡ length lower.now) }
     ensures { out.new ≡ lazy_row q lower.now }
 {
-    let mut k = lower.len();
-    let mut next = lower[k - 1];
-    while k > 0 {
-        k -= 1;
-        next = base::max(lower[k], base::minus(next, q));
+    let n = lower.len();
+    let mut next = lower[n - 1];
+    for k in (0..n).rev() {
+        next = lower[k].max(next.saturating_sub(q));
         out[k] = next;
-    }
-}
-
-// One number in every slot.
-pub fn fill_row(value: u64, out: &mut [u64])
-    ensures { out.new ≡ tab (λ _. value) (length out.old) }
-{
-    let mut k = 0;
-    while k < out.len() {
-        out[k] = value;
-        k += 1;
     }
 }
 
@@ -46,19 +34,21 @@ pub fn raise_row_less(from: &[u64], amount: u64, out: &mut [u64])
     requires { length from.now ≡ length out.old }
     ensures { out.new ≡ raised_row from.now amount out.old }
 {
-    let mut k = 0;
-    while k < out.len() {
-        out[k] = base::max(out[k], base::minus(from[k], amount));
-        k += 1;
+    for (k, x) in out.iter_mut().enumerate() {
+        *x = (*x).max(from[k].saturating_sub(amount));
     }
 }
 
-// x / d rounded up.
-fn ceil_div(x: u64, d: u64) -> u64
-    requires { (x ≤ greatest_total) × ((0 < d) × (d ≤ greatest_total)) }
-    ensures { result ≡ ceil_div x d }
+// Each number of `out` lowered to that of `from` and `plus`.
+pub fn lower_row_more(from: &[u64], plus: u64, out: &mut [u64])
+    requires same_slots { length from.now ≡ length out.old }
+    requires small { plus ≤ greatest_memory }
+    requires in_range { InRange from.now }
+    ensures { out.new ≡ lowered_row from.now plus out.old }
 {
-    (x + (d - 1)) / d
+    for (k, x) in out.iter_mut().enumerate() {
+        *x = (*x).min(from[k] + plus);
+    }
 }
 
 // Where a pass of the search for a least peak stands: specs/Newton of `smoothing` says what each number is.
@@ -77,11 +67,11 @@ impl Search {
         ensures { search_in result ≡ newton.look (λ _. lower) (λ _. upper) p 0 (search_in self) }
     {
         let nearer = upper < self.reach;
-        let reach = base::min(self.reach, upper) + p;
+        let reach = self.reach.min(upper) + p;
         let gap = base::select(nearer, 1, self.gap + 1);
-        let here = base::minus(lower, reach);
+        let here = lower.saturating_sub(reach);
         let found = self.excess < here;
-        let excess = base::max(self.excess, here);
+        let excess = self.excess.max(here);
         let span = base::select(found, gap, self.span);
         Search {
             reach,
@@ -105,12 +95,9 @@ fn pass(lower: &[u64], upper: &[u64], p: u64, stride: usize) -> Search
         excess: 0,
         span: 0,
     };
-    let mut at = 0;
-    let mut next = stride;
-    while next < lower.len() {
-        s = s.look(lower[next], upper[at], rise);
-        at = next;
-        next += stride;
+    for k in 0..(lower.len() - 1) / stride {
+        let at = k * stride;
+        s = s.look(lower[at + stride], upper[at], rise);
     }
     s
 }
@@ -126,7 +113,8 @@ fn search_by(lower: &[u64], upper: &[u64], start: u64, stride: usize) -> u64
     let mut p = start;
     let mut s = pass(lower, upper, p, stride);
     while s.excess > 0 {
-        p += ceil_div(s.excess, s.span * (stride as u64));
+        let span = s.span * (stride as u64);
+        p += s.excess.div_ceil(span);
         s = pass(lower, upper, p, stride);
     }
     p
@@ -149,40 +137,8 @@ fn raise_within(plan: &mut [u64], a: usize, b: usize, width: usize)
     requires { (a + width ≤ b) × (b + width ≤ length plan.old) }
     ensures { plan.new ≡ with_raised a b width plan.old }
 {
-    let mut k = 0;
-    while k < width {
-        plan[a + k] = base::max(plan[a + k], plan[b + k]);
-        k += 1;
-    }
-}
-
-// The pass up: each row, from the last on, into its parent's, unless that is the root.
-fn pass_up(plan: &mut [u64], parent: &[usize; Job::MOST_NODES], nodes: usize, width: usize)
-    requires { Closable plan.old parent.now nodes width }
-    ensures { AtEachSlot width (pass_up (family_in parent.now) (λ v x y. max x y) (nodes - 1))
-        plan.old plan.new }
-{
-    let mut v = nodes;
-    while v > 1 {
-        v -= 1;
-        let u = parent[v];
-        if u > 0 {
-            let a = (u - 1) * width;
-            let b = (v - 1) * width;
-            raise_within(plan, a, b, width);
-        }
-    }
-}
-
-fn copy(from: &[u64], out: &mut [u64])
-    requires { length out.old ≡ length from.now }
-    ensures { out.new ≡ from.now }
-{
-    let mut k = 0;
-    while k < out.len() {
-        out[k] = from[k];
-        k += 1;
-    }
+    let (front, rest) = plan.split_at_mut(b);
+    raise_row_less(&rest[..width], 0, &mut front[a..a + width]);
 }
 
 // The row of link u; that of the root has 0 in every slot.
@@ -191,12 +147,12 @@ fn copy_row(plan: &[u64], u: usize, width: usize, out: &mut [u64])
     ensures { out.new ≡ tab (rows_in width plan.now u) width }
 {
     if u == 0 {
-        fill_row(0, out);
+        out.fill(0);
         return;
     }
     let a = (u - 1) * width;
     let e = a + width;
-    copy(&plan[a..e], out);
+    base::copy(&plan[a..e], out);
 }
 
 // The last to touch a link's row, which comes as the pass up left it. `above` is a copy of the parent's closed row, 0 in every slot
@@ -222,118 +178,120 @@ fn close_row(plan: &mut [u64], above: &mut [u64], u: usize, v: usize, amount: u6
     finish_row(above, amount, &mut plan[a..e]);
 }
 
-// The pass down: each row, from the first on, raised to its parent's less the parent's memory. `above` is for the copies.
-fn pass_down(
-    plan: &mut [u64],
-    above: &mut [u64],
-    parent: &[usize; Job::MOST_NODES],
-    memory: &[u64; Job::MOST_NODES],
-    nodes: usize,
-    width: usize,
-)
-    requires { Closable plan.old parent.now nodes width × (length above.old ≡ width) }
-    ensures passed { AtEachSlot width
-        (pass_down (family_in parent.now) (close_down (tree_from nodes parent.now memory.now)) (nodes - 1))
-        plan.old plan.new }
-    ensures copied { above.new ≡ lent_row nodes width parent.now plan.new above.old }
-{
-    let mut v = 1;
-    while v < nodes {
-        let u = parent[v];
-        let amount = memory[u];
-        close_row(plan, above, u, v, amount, width);
-        v += 1;
-    }
-}
-
-// A plan with a row of `width` numbers for each link, link 1's first, closed at every slot. The lent row is for copies of rows.
-pub fn close_rows(
-    plan: &mut [u64],
-    lent: &mut [u64],
-    parent: &[usize; Job::MOST_NODES],
-    memory: &[u64; Job::MOST_NODES],
-    nodes: usize,
-    width: usize,
-)
-    requires { Closable plan.old parent.now nodes width × (length lent.old ≡ width) }
-    ensures closed { AtEachSlot width (close (tree_from nodes parent.now memory.now))
-        plan.old plan.new }
-    ensures copied { lent.new ≡ lent_row nodes width parent.now plan.new lent.old }
-{
-    pass_up(plan, parent, nodes, width);
-    pass_down(plan, lent, parent, memory, nodes, width);
-}
-
 // Of two rows in one list that have no place in common, the one from place `to` on lowered to the one from place `from` on and `plus`.
 fn lower_within(plan: &mut [u64], to: usize, from: usize, plus: u64, width: usize)
     requires { Apart to from width plan.old × ((plus ≤ greatest_memory) × InRange plan.old) }
     ensures filled { plan.new ≡ with_lowered to from plus width plan.old }
     ensures ranged { InRange plan.new }
 {
-    let mut k = 0;
-    while k < width {
-        plan[to + k] = base::min(plan[to + k], plan[from + k] + plus);
-        k += 1;
+    if to < from {
+        let (front, rest) = plan.split_at_mut(from);
+        lower_row_more(&rest[..width], plus, &mut front[to..to + width]);
+    } else {
+        let (front, rest) = plan.split_at_mut(to);
+        lower_row_more(&front[from..from + width], plus, &mut rest[..width]);
     }
 }
 
-// The pass up of opening: each row and its parent's memory, from the last on, into the parent's row, unless that is the root.
-fn open_up(
-    plan: &mut [u64],
-    parent: &[usize; Job::MOST_NODES],
-    memory: &[u64; Job::MOST_NODES],
-    nodes: usize,
-    width: usize,
-)
-    requires { Openable plan.old parent.now memory.now nodes width }
-    ensures passed { AtEachSlot width
-        (pass_up (family_in parent.now) (open_up (tree_from nodes parent.now memory.now)) (nodes - 1))
-        plan.old plan.new }
-    ensures ranged { InRange plan.new }
-{
-    let mut v = nodes;
-    while v > 1 {
-        v -= 1;
-        let u = parent[v];
-        if u > 0 {
-            let to = (u - 1) * width;
-            let from = (v - 1) * width;
-            let plus = memory[u];
-            lower_within(plan, to, from, plus, width);
+// The links of a tree: the parent and the memory of each node at its place, in the first `nodes` places.
+#[derive(Clone, Copy)]
+pub struct Links<'a> {
+    pub parent: &'a [usize; Job::MOST_NODES],
+    pub memory: &'a [u64; Job::MOST_NODES],
+    pub nodes: usize,
+    ghost some_node: { 0 < nodes },
+    ghost nodes_to: { nodes ≤ most_nodes },
+    ghost ordered: { Ordered (tree_from nodes parent.now memory.now) },
+}
+
+// A plan and its width stay two parameters: every method and loop over a struct with a `&mut` would have to say that it keeps both.
+impl<'a> Links<'a> {
+    ghost use Rattle.rows.specs.Links.{tree_in};
+
+    // The pass up: each row, from the last on, into its parent's, unless that is the root.
+    fn pass_up(&self, plan: &mut [u64], width: usize)
+        requires { Closable plan.old self.now.nodes width }
+        ensures { AtEachSlot width (pass_up (family_in self.now.parent.now) (λ v x y. max x y) (self.now.nodes - 1))
+            plan.old plan.new }
+    {
+        for v in (1..self.nodes).rev() {
+            let u = self.parent[v];
+            if u > 0 {
+                let a = (u - 1) * width;
+                let b = (v - 1) * width;
+                raise_within(plan, a, b, width);
+            }
         }
     }
-}
 
-// The pass down of opening: each row, from the first on, lowered to its parent's, unless that is the root.
-fn open_down(plan: &mut [u64], parent: &[usize; Job::MOST_NODES], nodes: usize, width: usize)
-    requires { Closable plan.old parent.now nodes width × InRange plan.old }
-    ensures { AtEachSlot width (pass_down (family_in parent.now) (λ v x y. min x y) (nodes - 1))
-        plan.old plan.new }
-{
-    let mut v = 1;
-    while v < nodes {
-        let u = parent[v];
-        let to = (v - 1) * width;
-        v += 1;
-        if u > 0 {
-            let from = (u - 1) * width;
-            lower_within(plan, to, from, 0, width);
+    // The pass down: each row, from the first on, raised to its parent's less the parent's memory. `above` is for the copies.
+    fn pass_down(&self, plan: &mut [u64], above: &mut [u64], width: usize)
+        requires { Closable plan.old self.now.nodes width × (length above.old ≡ width) }
+        ensures passed { AtEachSlot width
+            (pass_down (family_in self.now.parent.now) (close_down (tree_in self.now)) (self.now.nodes - 1))
+            plan.old plan.new }
+        ensures copied { above.new ≡ lent_row self.now.nodes width self.now.parent.now plan.new above.old }
+    {
+        for v in 1..self.nodes {
+            let u = self.parent[v];
+            let amount = self.memory[u];
+            close_row(plan, above, u, v, amount, width);
         }
     }
-}
 
-// A table with a row of `width` numbers for each link, link 1's first, opened at every slot.
-pub fn open_rows(
-    plan: &mut [u64],
-    parent: &[usize; Job::MOST_NODES],
-    memory: &[u64; Job::MOST_NODES],
-    nodes: usize,
-    width: usize,
-)
-    requires { Openable plan.old parent.now memory.now nodes width }
-    ensures { AtEachSlot width («open» (tree_from nodes parent.now memory.now))
-        plan.old plan.new }
-{
-    open_up(plan, parent, memory, nodes, width);
-    open_down(plan, parent, nodes, width);
+    // A plan with a row of `width` numbers for each link, link 1's first, closed at every slot. The lent row is for copies of rows.
+    pub fn close_rows(&self, plan: &mut [u64], lent: &mut [u64], width: usize)
+        requires { Closable plan.old self.now.nodes width × (length lent.old ≡ width) }
+        ensures closed { AtEachSlot width (close (tree_in self.now))
+            plan.old plan.new }
+        ensures copied { lent.new ≡ lent_row self.now.nodes width self.now.parent.now plan.new lent.old }
+    {
+        self.pass_up(plan, width);
+        self.pass_down(plan, lent, width);
+    }
+
+    // The pass up of opening: each row and its parent's memory, from the last on, into the parent's row, unless that is the root.
+    fn open_up(&self, plan: &mut [u64], width: usize)
+        requires { Openable plan.old self.now.memory.now self.now.nodes width }
+        ensures passed { AtEachSlot width
+            (pass_up (family_in self.now.parent.now) (open_up (tree_in self.now)) (self.now.nodes - 1))
+            plan.old plan.new }
+        ensures ranged { InRange plan.new }
+    {
+        for v in (1..self.nodes).rev() {
+            let u = self.parent[v];
+            if u > 0 {
+                let to = (u - 1) * width;
+                let from = (v - 1) * width;
+                let plus = self.memory[u];
+                lower_within(plan, to, from, plus, width);
+            }
+        }
+    }
+
+    // The pass down of opening: each row, from the first on, lowered to its parent's, unless that is the root.
+    fn open_down(&self, plan: &mut [u64], width: usize)
+        requires { Closable plan.old self.now.nodes width × InRange plan.old }
+        ensures { AtEachSlot width (pass_down (family_in self.now.parent.now) (λ v x y. min x y) (self.now.nodes - 1))
+            plan.old plan.new }
+    {
+        for v in 1..self.nodes {
+            let u = self.parent[v];
+            if u > 0 {
+                let to = (v - 1) * width;
+                let from = (u - 1) * width;
+                lower_within(plan, to, from, 0, width);
+            }
+        }
+    }
+
+    // A table with a row of `width` numbers for each link, link 1's first, opened at every slot.
+    pub fn open_rows(&self, plan: &mut [u64], width: usize)
+        requires { Openable plan.old self.now.memory.now self.now.nodes width }
+        ensures { AtEachSlot width («open» (tree_in self.now))
+            plan.old plan.new }
+    {
+        self.open_up(plan, width);
+        self.open_down(plan, width);
+    }
 }

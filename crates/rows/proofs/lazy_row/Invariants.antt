@@ -8,7 +8,4 @@ use Rattle.rows.specs.Row.{row_in}
 use Rattle.rows.proofs.lazy_row.Given as goal
 
 abbrev pub invariant-loop-k : goal.invariant-loop-k
-invariant-loop-k l = (length l.initial.out ≡ length l.lower) × ((l.next ≡ lazy (length l.lower - 1) l.q (row_in l.lower) (min l.k (length l.lower - 1))) × FilledFrom (lazy (length l.lower - 1) l.q (row_in l.lower)) l.k l.initial.out l.out)
-
-abbrev pub decreases-loop-k : goal.decreases-loop-k
-decreases-loop-k l = l.k
+invariant-loop-k l = (l.next ≡ lazy (length l.lower - 1) l.q (row_in l.lower) (min l.k (length l.lower - 1))) × FilledFrom (lazy (length l.lower - 1) l.q (row_in l.lower)) l.k l.initial.out l.out

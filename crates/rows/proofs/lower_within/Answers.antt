@@ -1,47 +1,42 @@
-use Prim.Native.Nat.{ℕ, ◌+◌, min}
-use mathlib.Core.Path.{◌≡◌, refl, ap₂, ◌∙◌}
-use lib.ListN.{length-set}
-use Rattle.rows.proofs.ClosingLaws.{part_none, part_more, part_rest}
-use Rattle.rows.proofs.OpeningLaws.{other_kept, part_range}
+-- The list is split between the two rows; the one from place `to` on is lowered to the other, and the rest is as it was.
+use Prim.Native.Nat.{◌+◌, ◌≤◌, min}
+use mathlib.Core.Path.{◌∙◌}
+use mathlib.Core.Logic.{⊎_elim}
 use native.Mathlib.Omega.{arith}
+use lib.ListN.{get_or}
+use Rattle.rows.proofs.ClosingLaws.{tab_both}
+use Rattle.rows.proofs.OpeningLaws.{part_range}
+use Rattle.rows.proofs.SplitLaws.{row_of_front, row_of_rest, put_front, put_rest}
 use Rattle.rows.proofs.lower_within.Goals as goal
-use Rattle.rows.proofs.lower_within.Invariants.{lowered}
 
-pub loop-k-init : goal.loop-k-init
-loop-k-init c =
+pub returns-then-to-from : goal.returns-then-to-from
+returns-then-to-from c =
     let g = c.args in
-    (omega arith, (refl, part_none (lowered g.plan.now g.to g.from g.plus) g.to g.plan.now))
-
-pub overflow_add-plan : goal.overflow_add-plan
-overflow_add-plan c =
-    let l = c.loop-k in
-    let g = c.args in
-    let kept = other_kept (lowered g.plan.now g.to g.from g.plus) g.to g.from g.width g.plan.now c.requires.0 l.k l.plan l.invariant.1.1 (omega arith) in
-    omega (arith, kept, c.requires.1.0, c.requires.1.1 (g.from + l.k) (omega (arith, c.requires.0.second_in)))
-
-pub loop-k-preserved : goal.loop-k-preserved
-loop-k-preserved c =
-    let l = c.loop-k in
-    let g = c.args in
-    let f = lowered g.plan.now g.to g.from g.plus in
-    let old = part_rest f g.to g.plan.now l.k l.plan l.invariant.1.1 (omega (arith, c.requires.0.first_in)) (g.to + l.k) (omega arith) in
-    let e : c.min.result ≡ f l.k =
-    c.min.ensures ∙ ap₂ (λ (x y : ℕ). min x (y + g.plus)) old
-    (other_kept f g.to g.from g.width g.plan.now c.requires.0 l.k l.plan l.invariant.1.1 (omega arith)) in (
-      omega arith,
-      (
-        length-set l.plan (g.to + l.k) c.min.result ∙ l.invariant.1.0,
-        rw e (part_more f g.to g.plan.now l.k l.plan l.invariant.1.1 (omega (arith, c.requires.0.first_in))),
-      ),
-    )
-
-pub returns : goal.returns
-returns c =
-    let l = c.loop-k in
-    let g = c.args in
-    let e : l.k ≡ g.width = omega arith in
-    let full = rw e at l.invariant.1.1 in
+    let l = g.plan.now in
+    let parts = c.split_at_mut-front.ensures in
+    let before : g.to + g.width ≤ g.from = ⊎_elim (λ h. h) (λ h. absurd (omega arith)) c.requires.0.no_common in
+    let lowered = c.lower_row_more.ensures
+    ∙ tab_both (λ x y. min x (y + g.plus)) (λ k. get_or l (g.to + k) 0) (λ k. get_or l (g.from + k) 0) g.width _ _
+    (row_of_front l g.from g.width c.requires.0.second_in g.to _ parts.front before)
+    (row_of_rest l g.from g.width c.requires.0.second_in _ parts.back) in
+    let filled = put_front _ g.width l _ _ _ parts.value lowered g.to g.from parts.front_len before in
     record {
-      filled = full;
-      ranged = part_range (lowered g.plan.now g.to g.from g.plus) g.to g.width g.plan.now l.plan c.requires.0.first_in full l.invariant.1.0 (λ k h. omega arith) c.requires.1.1;
+      filled = filled;
+      ranged = part_range _ g.to g.width l _ c.requires.0.first_in filled (λ k h. omega arith) c.requires.1.1;
+    }
+
+pub returns-else-to-from : goal.returns-else-to-from
+returns-else-to-from c =
+    let g = c.args in
+    let l = g.plan.now in
+    let parts = c.split_at_mut-front-else-to-from.ensures in
+    let before : g.from + g.width ≤ g.to = ⊎_elim (λ (h : g.to + g.width ≤ g.from). omega arith) (λ h. h) c.requires.0.no_common in
+    let lowered = c.lower_row_more-else-to-from.ensures
+    ∙ tab_both (λ x y. min x (y + g.plus)) (λ k. get_or l (g.to + k) 0) (λ k. get_or l (g.from + k) 0) g.width _ _
+    (row_of_rest l g.to g.width c.requires.0.first_in _ parts.back)
+    (row_of_front l g.to g.width c.requires.0.first_in g.from _ parts.front before) in
+    let filled = put_rest _ g.width l _ _ _ parts.value lowered g.to parts.front_len in
+    record {
+      filled = filled;
+      ranged = part_range _ g.to g.width l _ c.requires.0.first_in filled (λ k h. omega arith) c.requires.1.1;
     }

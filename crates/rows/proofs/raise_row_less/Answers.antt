@@ -2,7 +2,7 @@
 use Prim.Native.Nat.{ℕ, ◌-◌, max}
 use mathlib.Core.Path.{◌≡◌, ap, ◌∙◌}
 use Rattle.rows.specs.Row.{row_in}
-use Rattle.base.proofs.TableLaws.{filled_none, filled_more, filled-ahead, filled-done}
+use Rattle.base.proofs.TableLaws.{filled_none, filled_more, filled-ahead}
 use native.Mathlib.Omega.{arith}
 use Rattle.rows.proofs.raise_row_less.Goals as goal
 
@@ -15,10 +15,7 @@ loop-k-preserved c =
     let a = c.args in
     let e : c.max.result ≡ max (row_in a.out.now l.k) (row_in a.from.now l.k - a.amount) =
     c.max.ensures
-    ∙ rw c.minus.ensures
+    ∙ rw c.saturating_sub.ensures
     (ap (λ (x : ℕ). max x (row_in a.from.now l.k - a.amount))
     (filled-ahead _ l.k a.out.now l.out l.invariant (omega arith))) in
     rw e (filled_more _ l.k a.out.now l.out l.invariant (omega arith))
-
-pub returns : goal.returns
-returns c = filled-done _ c.loop-k.k _ _ c.loop-k.invariant (omega arith)

@@ -9,7 +9,7 @@ use Rattle.rows.specs.Search.{search_in}
 use Rattle.rows.proofs.SearchLaws.{least_range, step_range, step-peak, step-done}
 use native.Mathlib.Omega.{arith}
 use Rattle.rows.proofs.search_by.Goals as goal
-use Rattle.rows.proofs.search_by.Goals.{After-ceil_div-p, After-struct_known-in-loop-s-1}
+use Rattle.rows.proofs.search_by.Goals.{After-div_ceil-p, In-loop-s}
 
 pub pass-s-requires : goal.pass-s-requires
 pass-s-requires c =
@@ -18,32 +18,29 @@ pass-s-requires c =
       stride_in = c.requires.stride_in;
     }
 
-pub loop-s-init : goal.loop-s-init
-loop-s-init c = (omega arith, c.requires.searchable.1, c.pass-s.ensures)
-
 -- what the last pass found
-in_range : (c : After-struct_known-in-loop-s-1) → let s = c.loop-s.s in
+in_range : (c : In-loop-s) → let s = c.loop-s.s in
     let stride = c.args.stride in
     (s.excess ≤ greatest_total) × ((0 < s.span * stride) × (s.span * stride ≤ greatest_total))
 in_range c =
     let l = c.loop-s in
     step_range c.args.lower.now c.args.upper.now c.requires.searchable.0 l.p c.args.stride (search_in l.s) c.requires.stride_in.0 l.invariant.2 (omega arith)
 
-pub overflow_mul-s : goal.overflow_mul-s
-overflow_mul-s c = omega (arith, in_range c)
+pub overflow_mul-span : goal.overflow_mul-span
+overflow_mul-span c = omega (arith, in_range (goal.at.overflow_mul-span c).In-loop-s)
 
-pub ceil_div-p-requires : goal.ceil_div-p-requires
-ceil_div-p-requires c = in_range c
+pub div_ceil-p-requires : goal.div_ceil-p-requires
+div_ceil-p-requires c = (in_range (goal.at.div_ceil-p-requires c).In-loop-s).1.0
 
 -- the next peak
-next : (c : After-ceil_div-p) → let l = c.loop-s in
-    let a = c.args in let p = l.p + c.ceil_div-p.result in
+next : (c : After-div_ceil-p) → let l = c.loop-s in
+    let a = c.args in let p = l.p + c.div_ceil-p.result in
     (l.p < p) × (p ≤ least_peak (length a.lower.now - 1) (row_in a.lower.now) (row_in a.upper.now))
 next c =
     let l = c.loop-s in
-    rw c.ceil_div-p.ensures (step-peak c.args.lower.now c.args.upper.now c.requires.searchable.0 l.p c.args.stride (search_in l.s) c.requires.stride_in.0 l.invariant.2 (omega arith))
+    rw c.div_ceil-p.ensures (step-peak c.args.lower.now c.args.upper.now c.requires.searchable.0 l.p c.args.stride (search_in l.s) c.requires.stride_in.0 l.invariant.2 (omega arith))
 
-next_range : (c : After-ceil_div-p) → c.loop-s.p + c.ceil_div-p.result ≤ greatest_total
+next_range : (c : After-div_ceil-p) → c.loop-s.p + c.div_ceil-p.result ≤ greatest_total
 next_range c =
     omega (arith, next c, least_range c.args.lower.now c.args.upper.now c.requires.searchable.0)
 
@@ -58,10 +55,10 @@ pass-s-requires-in-loop-s c =
     }
 
 pub loop-s-smaller : goal.loop-s-smaller
-loop-s-smaller c = omega (arith, next (goal.at.loop-s-smaller c).After-ceil_div-p)
+loop-s-smaller c = omega (arith, next (goal.at.loop-s-smaller c).After-div_ceil-p)
 
 pub loop-s-preserved : goal.loop-s-preserved
-loop-s-preserved c = (omega (arith, next (goal.at.loop-s-preserved c).After-ceil_div-p), (next (goal.at.loop-s-preserved c).After-ceil_div-p).1, c.pass-s-in-loop-s.ensures)
+loop-s-preserved c = (omega (arith, next (goal.at.loop-s-preserved c).After-div_ceil-p), (next (goal.at.loop-s-preserved c).After-div_ceil-p).1, c.pass-s-in-loop-s.ensures)
 
 pub returns : goal.returns
 returns c =

@@ -1,25 +1,28 @@
 -- Laws of the leaves at or below a node, as a set has them: which is the earliest, and that D is the most that any of them plays.
 use mathlib.Core.Bool.{Bool, true, false, not, ◌&&◌, ◌||◌}
-use mathlib.Core.Path.{◌≡◌, refl, ap, sym, ◌∙◌}
-use mathlib.Core.List.{List}
+use mathlib.Core.Path.{◌≡◌, refl, ap, ap₂, sym, ◌∙◌}
+use mathlib.Core.List.{List, [], ◌∷◌}
+use Rattle.std.specs.List as list
 use mathlib.Core.Logic.{◌⊎◌, inl, inr, ⊎_elim}
-use Prim.Native.Nat.{ℕ, zero, suc, ◌≤◌, ◌<◌, ◌^◌, min, max}
+use Prim.Native.Nat.{ℕ, zero, suc, ◌-◌, ◌≤◌, ◌<◌, ◌^◌, min, max}
 use native.Mathlib.Omega.{arith}
 use lib.Dec.{eqb, ltb}
-use lib.ListN.{get_or}
+use lib.Bits.{bit_and}
+use lib.ListN.{length, get_or}
 use borrow.Author.Tests.{eqb-true, eq-eqb, ltb-true, ltb-false, lt-ltb}
-use Rattle.base.specs.Range.{fold}
-use Rattle.base.specs.Set.{has, word_bits}
+use Rattle.base.specs.Range.{first, fold}
+use Rattle.base.specs.Set.{has, members, word_bits}
+use Rattle.base.proofs.MemberLaws.{fold_members, members_next, next_in}
 use Rattle.base.proofs.BoolLaws.{true_or_false, not_both, otherwise, and_left, and_right, or_right}
 use Rattle.base.proofs.BoolLaws.{or_cases, cond_both, lt_or_le, last_or_below}
 use Rattle.base.proofs.RangeLaws.{greatest_over-above, greatest_over-under, greatest_over_either, which_passes}
 use Rattle.base.proofs.RangeLaws.{least_over-below, least_over-above}
-use Rattle.base.proofs.SetLaws.{has-none, has_past}
+use Rattle.base.proofs.SetLaws.{has-none, has_past, first_in}
 use Rattle.job.specs.Tree.{Tree, TreeWithin, leaf, below, leaf_at}
 use Rattle.job.proofs.TreeLaws.{leaf_in, leaf_no_parent, child-below, below_in, below_cases, below_trans}
 use Rattle.smoothing.specs.Tree.{Link}
 use Rattle.curves.specs.Curves.{leaf_below, plays, D}
-use Rattle.curves.specs.Rows.{least_delay, earlier, most_played}
+use Rattle.curves.specs.Rows.{least_delay, earlier, earliest_of, most_played}
 use Rattle.curves.proofs.LowerLaws.{parent-lower, leaf-below, leaf-below_in, some-leaf, D-leaf, D-above, D-under}
 
 -- a member has a place in the word
@@ -27,6 +30,22 @@ pub member_lt : (set i : ℕ) → set < 2 ^ 64 → has set i ≡ true → i < wo
 member_lt set i fits m = ⊎_elim (λ l. l) (λ l. absurd (not_both m (has_past set i fits l))) (lt_or_le i word_bits)
 
 -- ---- the earliest
+
+-- a set without a member is empty
+pub no_member : (set : ℕ) → set < 2 ^ 64 → members set ≡ [] → set ≡ 0
+no_member set fits e =
+    ⊎_elim
+    (λ (h : 0 < set). let m : suc (length (members (bit_and set (set - 1)))) ≡ 0 = ap length (sym (members_next set fits h) ∙ e) in absurd (omega (arith, m)))
+    (λ h. omega arith)
+    (lt_or_le 0 set)
+
+-- a set that has a member is not
+pub some_member : (set i : ℕ) (rest : List ℕ) → members set ≡ i ∷ rest → 0 < set
+some_member set i rest e =
+    ⊎_elim
+    (λ l. l)
+    (λ l. let z : set ≡ 0 = omega arith in absurd (not_both (rw z at ((next_in set i rest e).1)) (has-none i)))
+    (lt_or_le 0 set)
 
 module _ (delay : List ℕ) where
   earlier-delay : (i l : ℕ) → get_or delay (earlier delay i l) 0 ≡ min (get_or delay i 0) (get_or delay l 0)
@@ -62,6 +81,23 @@ module _ (delay : List ℕ) where
         go (inl e) (inr q) ih = rw e (omega (arith, earlier-delay (fold (earlier delay) z p n) n, ih q t))
         go (inr e) (inl q) ih = absurd (not_both (rw q at t) e)
         go (inr e) (inr q) ih = rw e (ih q t)
+
+  -- the earliest of a set that is not empty is a member
+  pub earliest_member : (set : ℕ) → set < 2 ^ 64 → 0 < set → has set (earliest_of delay set) ≡ true
+  earliest_member set fits h = earliest_in (has set) (first (has set) word_bits) (first_in set fits h) word_bits
+
+  -- the first member and then the others, as a walk meets them
+  earlier-self : (i : ℕ) → earlier delay i i ≡ i
+  unfolding earlier
+  earlier-self i = cond_both (ltb (get_or delay i 0) (get_or delay i 0)) (λ x. x ≡ i) i i (λ _. refl) (λ _. refl)
+
+  pub earliest_members : (set i : ℕ) (rest : List ℕ) → set < 2 ^ 64 → members set ≡ i ∷ rest
+      → list.fold (earlier delay) i rest ≡ earliest_of delay set
+  earliest_members set i rest fits e =
+      let is_first : first (has set) word_bits ≡ i = ap (λ (l : List ℕ). get_or l 0 0) (sym (members_next set fits (some_member set i rest e)) ∙ e) in
+      ap (λ (z : ℕ). list.fold (earlier delay) z rest) (sym (earlier-self i))
+      ∙ ap₂ (list.fold (earlier delay)) (sym is_first) (sym e)
+      ∙ fold_members (earlier delay) (first (has set) word_bits) set
 
 -- ---- the most that a leaf of a set plays
 

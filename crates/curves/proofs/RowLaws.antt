@@ -1,24 +1,26 @@
 -- Laws of rows that take in one leaf after the other.
-use mathlib.Core.Bool.{Bool, true, false, not, ◌&&◌, ◌||◌}
+use mathlib.Core.Bool.{true, false, not, ◌&&◌, ◌||◌}
 use mathlib.Core.Path.{◌≡◌, refl, ap, sym, ◌∙◌}
 use mathlib.Core.List.{List, [], ◌∷◌}
 use mathlib.Core.Logic.{◌⊎◌, inl, inr}
-use Prim.Native.Nat.{ℕ, zero, suc, ◌-◌, ◌≤◌, ◌<◌, max}
+use Prim.Native.Nat.{ℕ, zero, suc, ◌+◌, ◌-◌, ◌≤◌, ◌<◌, max}
 use native.Mathlib.Omega.{arith}
 use lib.Dec.{eqb, ltb}
-use lib.ListN.{length, get_or, set, length-set}
-use lib.Seq.{get_or-set_same, get_or-set_other}
+use lib.ListN.{length, take, drop, get_or, set, length-set, length-take, length-drop}
+use lib.Seq.{get_or-set_same, get_or-set_other, get_or-take, get_or-drop}
 use Rattle.base.specs.Range.{fold, greatest_over}
-use Rattle.base.specs.Set.{has, word_bits}
+use Rattle.base.specs.Set.{has, members, word_bits}
+use Rattle.base.proofs.MemberLaws.{fold_members}
+use Rattle.std.specs.List as list
 use Rattle.base.specs.Table.{tab}
 use Rattle.base.proofs.BoolLaws.{true_or_false}
 use Rattle.base.proofs.TableLaws.{length-tab, get_or-tab, tab_cong, tab_of_list}
 use Rattle.job.specs.Sums.{HoldsSums, sums_in}
 use Rattle.job.specs.Tree.{Tree}
-use Rattle.job.proofs.SumsLaws.{film_of, sum_fits}
+use Rattle.job.proofs.SumsLaws.{film_of, place-fits, sum_fits}
 use Rattle.rows.specs.Row.{InRange}
 use Rattle.curves.specs.Curves.{plays}
-use Rattle.curves.specs.Rows.{most_played, begun, raised_by, raised_by_all, TakenIn}
+use Rattle.curves.specs.Rows.{most_played, raised_by, raised_by_all, TakenIn}
 use Rattle.curves.proofs.LeafLaws.{only_member, played-none, played_one, played_parts}
 
 -- a row with these numbers in its places is the table of them
@@ -40,14 +42,6 @@ zero_slot f g n z same = row_is g (set (tab f n) 0 0) n (length-set (tab f n) 0 
 
 -- ---- leaves taken in
 
-pub begun-length : (fresh : Bool) (row : List ℕ) → length (begun fresh row) ≡ length row
-begun-length true row = length-tab _ (length row)
-begun-length false row = refl
-
--- a row that isn't fresh is what stands in it
-pub begun-same : (fresh : Bool) (row : List ℕ) → fresh ≡ false → begun fresh row ≡ row
-begun-same fresh row e = rw e
-
 -- what two bring less an amount is what each brings less it
 pub less_each : (a b less : ℕ) → max a b - less ≡ max (a - less) (b - less)
 less_each a b less = omega arith
@@ -60,10 +54,23 @@ module _ (sums : List ℕ) (held : HoldsSums sums) where
   pub none-taken : (less n : ℕ) (row : List ℕ) → length row ≡ n → InRange row → TakenIn sums n less row
   none-taken less n row e small k q = let z : k - n ≡ 0 = omega arith in rw z (omega (arith, (film_of sums held).starts), small k q)
 
-  pub fresh_taken : (row : List ℕ) → TakenIn sums (length row) 0 (begun true row)
-  fresh_taken row =
-      none-taken 0 (length row) (begun true row) (length-tab _ (length row))
-      (λ k q. omega (arith, get_or-tab (λ _. 0) (length row) k (rw length-tab at q)))
+  -- a part of the sums is in range
+  pub sums_range : (n a : ℕ) → InRange (take n (drop a sums))
+  sums_range n a k q =
+      rw (get_or-take n (drop a sums) k 0 (omega (arith, q, length-take n (drop a sums))), get_or-drop a sums k 0)
+      (place-fits sums held (a + k) (omega (arith, q, length-take n (drop a sums), length-drop a sums)))
+
+  -- nor is anything in a row of zeros
+  pub zeros-taken : (row : List ℕ) → row ≡ tab (λ _. 0) (length row) → TakenIn sums (length row) 0 row
+  zeros-taken row e =
+      none-taken 0 (length row) row refl
+      (λ k q. omega (arith, ap (λ (r : List ℕ). get_or r k 0) e, get_or-tab (λ _. 0) (length row) k q))
+
+  -- a fresh row that a leaf fills has taken in its delay
+  pub shifted-taken : (d n : ℕ) → TakenIn sums d 0 (tab (λ k. sums_in sums (k - d)) n)
+  shifted-taken d n k q =
+      let at = get_or-tab (λ k. sums_in sums (k - d)) n k (rw length-tab at q) in
+      (omega (arith, at), omega (arith, at, sum_fits sums held (k - d)))
 
   -- a leaf that starts no earlier than one taken in brings nothing
   pub raised_none : (t : Tree) (l less taken : ℕ) (row : List ℕ) → taken ≤ t.delay l → TakenIn sums taken less row
@@ -76,14 +83,13 @@ module _ (sums : List ℕ) (held : HoldsSums sums) where
         (film_of sums held).grows (k - t.delay l) (k - taken) (omega arith),
       ))
 
-module _ (t : Tree) (sums : List ℕ) (less : ℕ) where
+module _ (t : Tree) (sums : List ℕ) where
   -- the first leaf of a fresh row
-  pub raised_fresh : (fresh : Bool) → fresh ≡ true → less ≡ 0 → (l : ℕ) (row : List ℕ)
-      → tab (λ k. sums_in sums (k - t.delay l)) (length row) ≡ raised_by t sums l less (begun fresh row)
+  pub raised_fresh : (l n : ℕ) → tab (λ k. sums_in sums (k - t.delay l)) n ≡ raised_by t sums l 0 (tab (λ _. 0) n)
   unfolding raised_by
-  raised_fresh fresh f e l row =
-      rw (f, length-tab, e) (tab_cong _ _ (length row) (λ k q. omega (arith, get_or-tab (λ _. 0) (length row) k q)))
+  raised_fresh l n = rw length-tab (tab_cong _ _ n (λ k q. omega (arith, get_or-tab (λ _. 0) n k q)))
 
+module _ (t : Tree) (sums : List ℕ) (less : ℕ) where
   -- a leaf that was taken in has been
   pub raised_taken : HoldsSums sums → (l : ℕ) (row : List ℕ) → InRange row → TakenIn sums (t.delay l) less (raised_by t sums l less row)
   unfolding raised_by
@@ -124,6 +130,11 @@ module _ (t : Tree) (sums : List ℕ) (less : ℕ) where
   unfolding raised_by_all most_played
   raised_all set row = raised_so_far set row word_bits
 
+  -- the same, where a walk takes in each of them
+  pub raised_members : (set : ℕ) (row : List ℕ)
+      → list.fold (λ r l. raised_by t sums l less r) row (members set) ≡ raised_by_all t sums set less row
+  raised_members set row = fold_members _ row set ∙ raised_all set row
+
   -- none at all
   pub raised_by_none : (row : List ℕ) → row ≡ raised_by_all t sums 0 less row
   unfolding raised_by_all
@@ -132,11 +143,10 @@ module _ (t : Tree) (sums : List ℕ) (less : ℕ) where
   -- one first, then the rest
   pub raised_by_all_lem : (set one rest i : ℕ) (row : List ℕ) → i < word_bits → has set i ≡ true
       → ((j : ℕ) → has one j ≡ (has 0 j || (eqb j i && ltb j word_bits))) → ((j : ℕ) → has rest j ≡ (has set j && not (has one j)))
-      → fold (λ r l. raised_by t sums l less r) (raised_by t sums i less row) (has rest) word_bits ≡ raised_by_all t sums set less row
+      → raised_by_all t sums rest less (raised_by t sums i less row) ≡ raised_by_all t sums set less row
   unfolding raised_by_all raised_by
   raised_by_all_lem set one rest i row h m is_one is-rest =
-      raised_all rest (raised_by t sums i less row)
-      ∙ rw length-tab
+      rw length-tab
       (tab_cong _ _ (length row) (λ k q.
       one_more _ _ _ _ (get_or-tab (λ k. max (get_or row k 0) (plays t (sums_in sums) i k - less)) (length row) k q)
       ∙ ap (max (get_or row k 0)) (sym (ap (λ (x : ℕ). x - less) (whole k) ∙ less_each _ _ less))))

@@ -1,5 +1,5 @@
 -- What the code works with: the earliest of some leaves, rows that take in one leaf after the other, and rows of all links.
-use Rattle.std.specs.Prelude.{Bool, cond, ◌≡◌, ◌≢◌, List, ℕ, suc, ◌+◌, ◌-◌, ◌≤◌, ◌<◌, max, min, ltb, length, get_or}
+use Rattle.std.specs.Prelude.{cond, ◌≡◌, ◌≢◌, List, ℕ, suc, ◌+◌, ◌-◌, ◌≤◌, ◌<◌, max, min, ltb, length, get_or}
 use Rattle.base.specs.Range.{first, fold, greatest_over, least_over}
 use Rattle.base.specs.Set.{has, word_bits}
 use Rattle.base.specs.Table.{tab, rows_of}
@@ -25,10 +25,6 @@ unfoldable pub most_played : Tree → (ℕ → ℕ) → ℕ → ℕ → ℕ
 most_played t T set k = greatest_over (has set) (λ l. plays t T l k) word_bits
 
 -- ---- leaves taken in, where a slice has the sums
-
--- the row that a leaf is taken into: one that is fresh counts as one of zeros, whatever stands in it
-abbrev pub begun : Bool → List ℕ → List ℕ
-begun fresh row = cond fresh (tab (λ _. 0) (length row)) row
 
 module _ (t : Tree) (sums : List ℕ) where
   -- a lower row that has taken in, at every slot, what leaf l plays less `less`, where that is more

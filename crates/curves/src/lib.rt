@@ -2,25 +2,26 @@
 // Definitions to believe: specs/Curves; what the functions below work with: specs/Rows.
 #![tactic(auto)]
 
-ghost use Rattle.std.specs.Prelude.{true, ◌≡◌, ◌+◌, ◌-◌, ◌*◌, ◌≤◌, ◌<◌, max, min, length, get_or, set};
+ghost use Rattle.std.specs.Prelude.{true, ◌≡◌, ◌↔◌, IsNone, IfSome, ◌+◌, ◌-◌, ◌*◌, ◌≤◌, ◌<◌, max, min, length, get_or, set};
+ghost use Rattle.base.specs.Set.{has};
 ghost use Rattle.base.specs.Table.{tab};
 ghost use Rattle.job.specs.Limits.{most_nodes, most_slots, greatest_memory};
 ghost use Rattle.job.specs.Tree.{TreeWithin};
 ghost use Rattle.job.specs.Read.{tree_in};
-ghost use Rattle.job.specs.Sums.{sums_in, last_in, HoldsSums, WithSums};
+ghost use Rattle.job.specs.Sums.{sums_in, last_in};
 ghost use Rattle.smoothing.specs.Tree.{Link};
-ghost use Rattle.rows.specs.Row.{InRange};
 ghost use Rattle.curves.specs.Curves.{lower_curve, high};
-ghost use Rattle.curves.specs.Rows.{least_delay, earliest_of, begun, raised_by, raised_by_all, TakenIn, lowered_by};
+ghost use Rattle.curves.specs.Rows.{least_delay, earliest_of, raised_by, raised_by_all, TakenIn, lowered_by};
 ghost use Rattle.curves.specs.Rows.{roof, high_rows, upper_rows, Kept, leaf_lower};
 
-use job::Job;
+use job::{Film, Job};
+use rows::Links;
 
 // Where T(k - delay) stands among T(0) to T(last).
 fn place(k: usize, delay: usize, last: usize) -> usize
     ensures { result ≡ min (k - delay) last }
 {
-    base::min_usize(base::minus_usize(k, delay), last)
+    k.saturating_sub(delay).min(last)
 }
 
 // Each slot k has T(k - delay).
@@ -29,148 +30,118 @@ fn shift(out: &mut [u64], sums: &[u64], delay: usize)
     ensures { out.new ≡ tab (λ k. sums_in sums.now (k - delay)) (length out.old) }
 {
     let last = sums.len() - 1;
-    let mut k = 0;
-    while k < out.len() {
-        out[k] = sums[place(k, delay, last)];
-        k += 1;
+    for (k, x) in out.iter_mut().enumerate() {
+        *x = sums[place(k, delay, last)];
     }
 }
 
-// Each place takes that of `from` less `less`, where that is more; one comparison finds it.
-fn raise_by(out: &mut [u64], from: &[u64], less: u64)
-    requires { (length from.now ≡ length out.old) × ((less ≤ most_nodes * greatest_memory) × InRange out.old) }
-    ensures { out.new
-        ≡ tab (λ k. max (get_or out.old k 0) (get_or from.now k 0 - less)) (length out.old) }
-{
-    let mut k = 0;
-    while k < out.len() {
-        out[k] = base::max(out[k] + less, from[k]) - less;
-        k += 1;
-    }
-}
-
-// Each place takes `value`, where that is more.
+// Each place takes `value`, where that is more. This, `lower_all` and `lessen` are no one function with a closure: each call and each proof
+// would spell the operation out.
 fn raise_to(out: &mut [u64], value: u64)
     ensures { out.new ≡ tab (λ k. max (get_or out.old k 0) value) (length out.old) }
 {
-    let mut k = 0;
-    while k < out.len() {
-        out[k] = base::max(out[k], value);
-        k += 1;
+    for x in out.iter_mut() {
+        *x = (*x).max(value);
     }
 }
 
 // The work on leaf l in a lower row, at all its slots: nothing before its delay, then T frame by frame, then T(M), each less `less`,
-// where that is more. A fresh row counts as one of zeros, whatever stands in it. In any other there is nothing to be done where it has
-// taken in a delay, `taken`, that is no longer. Returns a delay that the row has taken in then.
-fn raise_by_leaf(
-    job: Job,
-    sums: &[u64],
-    l: usize,
-    less: u64,
-    taken: usize,
-    fresh: bool,
-    out: &mut [u64],
-) -> usize
-    requires holds_sums { HoldsSums sums.now × ((l < most_nodes) × (less ≤ most_nodes * greatest_memory)) }
-    requires taken_before { (fresh ≡ true → less ≡ 0) × TakenIn sums.now taken less (begun fresh out.old) }
-    ensures raised { out.new ≡ raised_by (tree_in job) sums.now l less (begun fresh out.old) }
-    ensures taken_after { TakenIn sums.now result less out.new }
+// where that is more. There is nothing to be done where the row has taken in a delay, `taken`, that is no longer; the row's length stands
+// for none, as any row has taken in a delay past its end. Returns a delay that the row has taken in then.
+fn raise_by_leaf(film: Film, l: usize, less: u64, taken: usize, out: &mut [u64]) -> usize
+    requires node { l < most_nodes }
+    requires taken_before { TakenIn film.sums.t.now taken less out.old }
+    ensures raised { out.new ≡ raised_by (tree_in film.entry.job.now) film.entry.sums.t.now l less out.old }
+    ensures taken_after { TakenIn film.entry.sums.t.now result less out.new }
 {
-    let delay = job.delay[l];
-    if fresh {
-        shift(out, sums, delay);
-        return delay;
-    }
+    let delay = film.job.delay[l];
     if taken <= delay {
         return taken;
     }
     let end = out.len();
-    let frames = sums.len();
-    let last = base::minus(sums[frames - 1], less);
-    let start = base::min_usize(delay, end);
-    let count = base::min_usize(end - start, frames);
+    let frames = film.sums.t.len();
+    let last = film.sums.total().saturating_sub(less);
+    let start = delay.min(end);
+    let count = (end - start).min(frames);
     let full = start + count;
-    raise_by(&mut out[start..full], &sums[0..count], less);
+    rows::raise_row_less(&film.sums.t[0..count], less, &mut out[start..full]);
     raise_to(&mut out[full..end], last);
     delay
 }
 
-// Which member of a set has the least of these delays; the lowest of those that have it.
-fn earliest(set: u64, delay: &[usize; Job::MOST_NODES]) -> usize
-    ensures { result ≡ earliest_of delay.now set }
+// The work on each leaf of a set in turn, from the lowest on.
+fn raise_by_each(film: Film, set: u64, less: u64, taken: usize, out: &mut [u64]) -> usize
+    requires { TakenIn film.sums.t.now taken less out.old }
+    ensures raised { out.new ≡ raised_by_all (tree_in film.entry.job.now) film.entry.sums.t.now set less out.old }
+    ensures taken_after { TakenIn film.entry.sums.t.now result less out.new }
 {
-    let mut found = base::lowest(set);
-    let mut rest = set;
-    while rest != 0 {
-        let l = base::lowest(rest);
-        found = base::select_usize(delay[l] < delay[found], l, found);
-        rest = base::without_lowest(rest);
-    }
-    found
-}
-
-// The work on each leaf of a set in turn: the earliest first, so that there is nothing to be done on the rest, which follow from the
-// lowest on.
-fn raise_by_leaves(
-    job: Job,
-    sums: &[u64],
-    set: u64,
-    less: u64,
-    taken: usize,
-    fresh: bool,
-    out: &mut [u64],
-) -> usize
-    requires holds_sums { HoldsSums sums.now × ((less ≤ most_nodes * greatest_memory) × (fresh ≡ true → (less ≡ 0) × (0 < set))) }
-    requires taken_before { TakenIn sums.now taken less (begun fresh out.old) }
-    ensures raised { out.new ≡ raised_by_all (tree_in job) sums.now set less (begun fresh out.old) }
-    ensures taken_after { TakenIn sums.now result less out.new }
-{
-    if set == 0 {
-        return taken;
-    }
-    let first = earliest(set, &job.delay);
-    let mut least = raise_by_leaf(job, sums, first, less, taken, fresh, out);
-    let mut rest = base::outside(set, base::with(0, first));
-    while rest != 0 {
-        least = raise_by_leaf(job, sums, base::lowest(rest), less, least, false, out);
-        rest = base::without_lowest(rest);
+    let mut least = taken;
+    for l in base::members(set) {
+        least = raise_by_leaf(film, l, less, least, out);
     }
     least
 }
 
-// lower_i(0), lower_i(1), .. : what the leaves at or below node i bring, and on the way up, at each ancestor below the root, those that
-// were not below the one before. Each is finished before the next is begun.
-pub fn lower_row(job: Job, sums: &[u64], i: usize, out: &mut [u64])
-    requires { WithSums job sums.now × Link job.nodes i }
-    ensures { out.new ≡ tab (lower_curve (tree_in job) (sums_in sums.now) i) (length out.old) }
+// Which member of a set has the least of these delays; the lowest of those that have it.
+fn earliest(set: u64, delay: &[usize; Job::MOST_NODES]) -> Option<usize>
+    ensures none { IsNone result ↔ (set ≡ 0) }
+    ensures member { IfSome result (λ l. has set l ≡ true) }
+    ensures found { IfSome result (λ l. l ≡ earliest_of delay.now set) }
 {
-    let parent = job.parent;
-    let memory = job.memory;
-    let mut a = i;
-    let mut less: u64 = 0;
-    let mut seen = job.leaves_at(i);
-    let mut taken = raise_by_leaves(job, sums, seen, 0, out.len(), true, out);
-    while parent[a] != 0 {
-        a = parent[a];
-        less += memory[a];
-        let leaves = job.leaves_at(a);
-        let new = base::outside(leaves, seen);
-        taken = raise_by_leaves(job, sums, new, less, taken, false, out);
-        seen = leaves;
+    let mut members = base::members(set);
+    let mut found = members.next()?;
+    for l in members {
+        found = base::select(delay[l] < delay[found], l, found);
     }
+    Some(found)
 }
 
-// Each place takes that of `from` and `plus`, where that is less.
-fn lower_by(out: &mut [u64], from: &[u64], plus: u64)
-    requires { (length from.now ≡ length out.old) × ((plus ≤ greatest_memory) × InRange from.now) }
-    ensures { out.new
-        ≡ tab (λ j. min (get_or out.old j 0) (get_or from.now j 0 + plus)) (length out.old) }
+// The same, the earliest first, so that there is nothing to be done on the rest.
+fn raise_by_leaves(film: Film, set: u64, less: u64, taken: usize, out: &mut [u64]) -> usize
+    requires { TakenIn film.sums.t.now taken less out.old }
+    ensures raised { out.new ≡ raised_by_all (tree_in film.entry.job.now) film.entry.sums.t.now set less out.old }
+    ensures taken_after { TakenIn film.entry.sums.t.now result less out.new }
 {
-    let mut j = 0;
-    while j < out.len() {
-        out[j] = base::min(out[j], from[j] + plus);
-        j += 1;
+    let Some(first) = earliest(set, &film.job.delay) else {
+        return taken;
+    };
+    let least = raise_by_leaf(film, first, less, taken, out);
+    let rest = base::outside(set, base::with(0, first));
+    raise_by_each(film, rest, less, least, out)
+}
+
+// The same in a fresh row, which counts as one of zeros, whatever stands in it: the first leaf fills it.
+fn begin_by_leaves(film: Film, set: u64, out: &mut [u64]) -> usize
+    ensures raised { out.new ≡ raised_by_all (tree_in film.entry.job.now) film.entry.sums.t.now set 0 (tab (λ _. 0) (length out.old)) }
+    ensures taken_after { TakenIn film.entry.sums.t.now result 0 out.new }
+{
+    let Some(first) = earliest(set, &film.job.delay) else {
+        out.fill(0);
+        return out.len();
+    };
+    let delay = film.job.delay[first];
+    shift(out, film.sums.t, delay);
+    let rest = base::outside(set, base::with(0, first));
+    raise_by_each(film, rest, 0, delay, out)
+}
+
+// lower_i(0), lower_i(1), .. : what the leaves at or below node i bring, and on the way up, at each ancestor below the root, those that
+// were not below the one before. Each is finished before the next is begun.
+pub fn lower_row(film: Film, i: usize, out: &mut [u64])
+    requires { Link film.job.now.nodes i }
+    ensures { out.new ≡ tab (lower_curve (tree_in film.entry.job.now) (sums_in film.entry.sums.t.now) i) (length out.old) }
+{
+    let mut a = i;
+    let mut less: u64 = 0;
+    let mut seen = film.job.leaves_at(i);
+    let mut taken = begin_by_leaves(film, seen, out);
+    while film.job.parent[a] != 0 {
+        a = film.job.parent[a];
+        less += film.job.memory[a];
+        let leaves = film.job.leaves_at(a);
+        let new = base::outside(leaves, seen);
+        taken = raise_by_leaves(film, new, less, taken, out);
+        seen = leaves;
     }
 }
 
@@ -178,28 +149,26 @@ fn lower_by(out: &mut [u64], from: &[u64], plus: u64)
 fn lower_all(out: &mut [u64], value: u64)
     ensures { out.new ≡ tab (λ k. min (get_or out.old k 0) value) (length out.old) }
 {
-    let mut k = 0;
-    while k < out.len() {
-        out[k] = base::min(out[k], value);
-        k += 1;
+    for x in out.iter_mut() {
+        *x = (*x).min(value);
     }
 }
 
 // The work on leaf l in an upper row, at all its slots: T(0) before its delay, then T frame by frame, then T(M), each with its memory,
 // where that is less.
-fn lower_by_leaf(job: Job, sums: &[u64], l: usize, out: &mut [u64])
-    requires { WithSums job sums.now × Link job.nodes l }
-    ensures { out.new ≡ lowered_by (tree_in job) sums.now l out.old }
+fn lower_by_leaf(film: Film, l: usize, out: &mut [u64])
+    requires { Link film.job.now.nodes l }
+    ensures { out.new ≡ lowered_by (tree_in film.entry.job.now) film.entry.sums.t.now l out.old }
 {
     let end = out.len();
-    let frames = sums.len();
-    let plus = job.memory[l];
-    let last = sums[frames - 1] + plus;
-    let start = base::min_usize(job.delay[l], end);
-    let count = base::min_usize(end - start, frames);
+    let frames = film.sums.t.len();
+    let plus = film.job.memory[l];
+    let last = film.sums.total() + plus;
+    let start = film.job.delay[l].min(end);
+    let count = (end - start).min(frames);
     let full = start + count;
     lower_all(&mut out[0..start], plus);
-    lower_by(&mut out[start..full], &sums[0..count], plus);
+    rows::lower_row_more(&film.sums.t[0..count], plus, &mut out[start..full]);
     lower_all(&mut out[full..end], last);
 }
 
@@ -207,107 +176,108 @@ fn lower_by_leaf(job: Job, sums: &[u64], l: usize, out: &mut [u64])
 fn start_at_zero(out: &mut [u64])
     ensures { out.new ≡ set out.old 0 0 }
 {
-    if 0 < out.len() {
-        out[0] = 0;
+    if let Some(first) = out.first_mut() {
+        *first = 0;
     }
 }
 
 // What the link into node v may have by its own rules, but for slot 0: T(M), and at a leaf D + b too.
-fn roof_row(job: Job, sums: &[u64], v: usize, out: &mut [u64])
-    requires { WithSums job sums.now × Link job.nodes v }
+fn roof_row(film: Film, v: usize, out: &mut [u64])
+    requires { Link film.job.now.nodes v }
     ensures { out.new
-        ≡ tab (roof (tree_in job) (sums_in sums.now) (last_in sums.now) v) (length out.old) }
+        ≡ tab (roof (tree_in film.entry.job.now) (sums_in film.entry.sums.t.now) (last_in film.entry.sums.t.now) v) (length out.old) }
 {
-    let last = sums.len() - 1;
-    rows::fill_row(sums[last], out);
-    if base::member(job.leaves(), v) {
-        lower_by_leaf(job, sums, v, out);
+    out.fill(film.sums.total());
+    if base::member(film.job.leaves(), v) {
+        lower_by_leaf(film, v, out);
     }
 }
 
 // The same with slot 0.
-fn high_row(job: Job, sums: &[u64], v: usize, out: &mut [u64])
-    requires { WithSums job sums.now × Link job.nodes v }
+fn high_row(film: Film, v: usize, out: &mut [u64])
+    requires { Link film.job.now.nodes v }
     ensures { out.new
-        ≡ tab (high (tree_in job) (sums_in sums.now) (last_in sums.now) v) (length out.old) }
+        ≡ tab (high (tree_in film.entry.job.now) (sums_in film.entry.sums.t.now) (last_in film.entry.sums.t.now) v) (length out.old) }
 {
-    roof_row(job, sums, v, out);
+    roof_row(film, v, out);
     start_at_zero(out);
 }
 
 // The same for each link, one row after the other.
-fn high_rows(job: Job, sums: &[u64], table: &mut [u64], width: usize)
-    requires { WithSums job sums.now × (length table.old ≡ (job.nodes - 1) * width) }
+fn high_rows(film: Film, table: &mut [u64], width: usize)
+    requires { length table.old ≡ (film.job.now.nodes - 1) * width }
     ensures { table.new
-        ≡ high_rows (tree_in job) (sums_in sums.now) (last_in sums.now) width (job.nodes - 1) }
+        ≡ high_rows (tree_in film.entry.job.now) (sums_in film.entry.sums.t.now) (last_in film.entry.sums.t.now) width
+        (film.entry.job.now.nodes - 1) }
 {
-    let links = job.nodes - 1;
-    let mut i = 0;
-    let mut start = 0;
-    while i < links {
-        let end = start + width;
-        high_row(job, sums, i + 1, &mut table[start..end]);
-        start = end;
-        i += 1;
+    let links = film.job.nodes - 1;
+    for i in 0..links {
+        let start = i * width;
+        high_row(film, i + 1, &mut table[start..start + width]);
     }
 }
 
 // The upper curves of all links, one row after the other, in two passes over the tree.
-pub fn upper_rows(job: Job, sums: &[u64], table: &mut [u64], width: usize)
-    requires { WithSums job sums.now × ((width ≤ most_slots) × (length table.old ≡ (job.nodes - 1) * width)) }
+pub fn upper_rows(film: Film, table: &mut [u64], width: usize)
+    requires { (width ≤ most_slots) × (length table.old ≡ (film.job.now.nodes - 1) * width) }
     ensures { table.new
-        ≡ upper_rows (tree_in job) (sums_in sums.now) (last_in sums.now) width (job.nodes - 1) }
+        ≡ upper_rows (tree_in film.entry.job.now) (sums_in film.entry.sums.t.now) (last_in film.entry.sums.t.now) width
+        (film.entry.job.now.nodes - 1) }
 {
-    high_rows(job, sums, table, width);
-    let parent = job.parent;
-    let memory = job.memory;
-    rows::open_rows(table, &parent, &memory, job.nodes, width);
+    high_rows(film, table, width);
+    let links = Links {
+        parent: &film.job.parent,
+        memory: &film.job.memory,
+        nodes: film.job.nodes,
+    };
+    links.open_rows(table, width);
 }
 
 // Each number less `less`, cut off at 0.
 fn lessen(out: &mut [u64], less: u64)
     ensures { out.new ≡ tab (λ k. get_or out.old k 0 - less) (length out.old) }
 {
-    let mut k = 0;
-    while k < out.len() {
-        out[k] = base::minus(out[k], less);
-        k += 1;
+    for x in out.iter_mut() {
+        *x = (*x).saturating_sub(less);
     }
 }
 
 // The kept row, which has the lower curve of node c, becomes that of node u: at little cost where c is u or its parent. It may have
-// anything where c is the root.
-pub fn keep_row(job: Job, sums: &[u64], c: usize, u: usize, kept: &mut [u64])
-    requires { WithSums job sums.now × (Link job.nodes u × Kept (tree_in job) (sums_in sums.now) c kept.old) }
-    ensures { kept.new ≡ tab (lower_curve (tree_in job) (sums_in sums.now) u) (length kept.old) }
+// anything where c is the root, which stands for none and is no Option, as the definition `Kept` speaks of node 0 so.
+pub fn keep_row(film: Film, c: usize, u: usize, kept: &mut [u64])
+    requires { Link film.job.now.nodes u × Kept (tree_in film.job.now) (sums_in film.sums.t.now) c kept.old }
+    ensures { kept.new ≡ tab (lower_curve (tree_in film.entry.job.now) (sums_in film.entry.sums.t.now) u) (length kept.old) }
 {
     if c == u {
         return;
     }
     if c == 0 {
-        lower_row(job, sums, u, kept);
+        lower_row(film, u, kept);
         return;
     }
-    if job.parent[u] != c {
-        lower_row(job, sums, u, kept);
+    if film.job.parent[u] != c {
+        lower_row(film, u, kept);
         return;
     }
-    lessen(kept, job.memory[c]);
-    raise_by_leaves(job, sums, job.leaves_at(u), 0, kept.len(), false, kept);
+    lessen(kept, film.job.memory[c]);
+    raise_by_leaves(film, film.job.leaves_at(u), 0, kept.len(), kept);
 }
 
 // The least delay of the leaves at or below node a.
-fn least_delay(job: Job, a: usize) -> usize
-    requires { TreeWithin (tree_in job) × (a < job.nodes) }
-    ensures { result ≡ least_delay (tree_in job) a }
+fn least_delay(job: &Job, a: usize) -> usize
+    requires { TreeWithin (tree_in job.now) × (a < job.now.nodes) }
+    ensures { result ≡ least_delay (tree_in job.now) a }
 {
-    job.delay[earliest(job.leaves_at(a), &job.delay)]
+    match earliest(job.leaves_at(a), &job.delay) {
+        Some(first) => job.delay[first],
+        None => 0,
+    }
 }
 
 // The highest node on the way up from node i, below the root.
-fn top_above(job: Job, i: usize) -> usize
-    requires { TreeWithin (tree_in job) × Link job.nodes i }
-    ensures { ((0 < result) × (result ≤ i)) × ((tree_in job).parent result ≡ 0) }
+fn top_above(job: &Job, i: usize) -> usize
+    requires { TreeWithin (tree_in job.now) × Link job.now.nodes i }
+    ensures { ((0 < result) × (result ≤ i)) × ((tree_in job.now).parent result ≡ 0) }
 {
     let mut a = i;
     while job.parent[a] != 0 {
@@ -319,31 +289,24 @@ fn top_above(job: Job, i: usize) -> usize
 // lower_v(0), lower_v(1), .. with the help of a row that is kept from link to link: it has the lower curve of node c before, and that
 // of the node returned after; anything where that node is the root. Where no ancestor has a leaf below it that starts before those
 // below the parent, `lower_row` takes in one row at most and costs least.
-pub fn lower_near(
-    job: Job,
-    sums: &[u64],
-    v: usize,
-    c: usize,
-    kept: &mut [u64],
-    out: &mut [u64],
-) -> usize
-    requires { WithSums job sums.now × (Link job.nodes v
-        × (Kept (tree_in job) (sums_in sums.now) c kept.old × (length kept.old ≡ length out.old))) }
-    ensures lower { out.new ≡ tab (lower_curve (tree_in job) (sums_in sums.now) v) (length out.old) }
-    ensures kept { Kept (tree_in job) (sums_in sums.now) result kept.new }
+pub fn lower_near(film: Film, v: usize, c: usize, kept: &mut [u64], out: &mut [u64]) -> usize
+    requires { Link film.job.now.nodes v
+        × (Kept (tree_in film.job.now) (sums_in film.sums.t.now) c kept.old × (length kept.old ≡ length out.old)) }
+    ensures lower { out.new ≡ tab (lower_curve (tree_in film.entry.job.now) (sums_in film.entry.sums.t.now) v) (length out.old) }
+    ensures kept { Kept (tree_in film.entry.job.now) (sums_in film.entry.sums.t.now) result kept.new }
 {
-    let u = job.parent[v];
+    let u = film.job.parent[v];
     if u == 0 {
-        lower_row(job, sums, v, out);
+        lower_row(film, v, out);
         return c;
     }
-    if least_delay(job, u) <= least_delay(job, top_above(job, v)) {
-        lower_row(job, sums, v, out);
+    if least_delay(film.job, u) <= least_delay(film.job, top_above(film.job, v)) {
+        lower_row(film, v, out);
         return c;
     }
-    keep_row(job, sums, c, u, kept);
-    raise_by_leaves(job, sums, job.leaves_at(v), 0, out.len(), true, out);
-    raise_by(out, kept, job.memory[u]);
+    keep_row(film, c, u, kept);
+    begin_by_leaves(film, film.job.leaves_at(v), out);
+    rows::raise_row_less(kept, film.job.memory[u], out);
     u
 }
 
@@ -360,5 +323,5 @@ pub fn played(sums: &[u64], delay: usize, k: usize) -> u64
 pub fn leaf_lower(plays: u64, above: u64, memory: u64) -> u64
     ensures { result ≡ leaf_lower plays above memory }
 {
-    base::max(plays, base::minus(above, memory))
+    plays.max(above.saturating_sub(memory))
 }

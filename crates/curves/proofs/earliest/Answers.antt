@@ -1,52 +1,47 @@
--- The loop walks the set, and keeps that `found` is the earliest of the members met.
+-- The loop walks the members after the first, and keeps that the rest, taken in after `found`, gives the earliest.
 use Prim.Native.Nat.{◌<◌}
-use Rattle.base.specs.Range.{first}
-use Rattle.base.specs.Set.{has, word_bits}
-use Rattle.base.proofs.SetLaws.{first_lt}
-use Rattle.base.proofs.RangeLaws.{first-least}
-use Rattle.base.proofs.WalkLaws.{walk_start, walk_in, walk_next, walk_done}
-use Rattle.curves.specs.Rows.{earlier}
-use Rattle.curves.proofs.LeafLaws.{member_lt, earliest_in}
+use mathlib.Core.Path.{◌≡◌, refl}
+use Rattle.base.specs.Set.{word_bits}
+use Rattle.base.proofs.BoolLaws.{cond_both, not_both}
+use Rattle.curves.specs.Rows.{earlier, earliest_of}
 use native.Mathlib.Omega.{arith}
+use Rattle.base.proofs.MemberLaws.{next_in}
+use Rattle.curves.proofs.LeafLaws.{earliest_members, earliest_member, no_member, some_member}
 use Rattle.curves.proofs.earliest.Goals as goal
-use Rattle.curves.proofs.earliest.Goals.{In-loop-rest}
 
--- the member met, and the earliest so far, have a place in the array
-low : (c : In-loop-rest) → first (has c.loop-rest.rest) word_bits < word_bits
-low c = first_lt c.loop-rest.rest c.loop-rest.invariant.fits (omega arith)
+pub loop-l-init : goal.loop-l-init
+loop-l-init c =
+    let met = rw c.members-members.ensures at c.in_ok-found.ensures.steps in (
+      (next_in _ _ _ met).0,
+      rw c.into_iter-l-iterator.ensures.into_iter_gives (earliest_members c.args.delay.now c.args.set _ _ (omega arith) met),
+    )
 
-found_in : (c : In-loop-rest) → c.loop-rest.found < word_bits
-found_in c =
-    let set = c.args.set in
-    let l = c.loop-rest in
-    let z = (first-least (has set) word_bits _ (low c) (walk_in _ _ set l.rest l.found l.invariant (omega arith))).1 in
-    member_lt set l.found (omega arith) (rw l.invariant.so_far (earliest_in _ (has set) _ z l.invariant.place))
+pub loop-l-preserved : goal.loop-l-preserved
+unfolding earlier
+loop-l-preserved c =
+    let low = (next_in _ _ _ c.in-Some.ensures.steps).0 in (
+      rw c.select-found.ensures (cond_both _ (λ x. x < word_bits) _ _ (λ _. low) (λ _. c.loop-l.invariant.0)),
+      rw c.select-found.ensures (rw c.in-Some.ensures.steps at c.loop-l.invariant.1),
+    )
 
-pub loop-rest-init : goal.loop-rest-init
-loop-rest-init c = rw c.lowest-found.ensures (walk_start _ _ _ (omega arith))
+pub returns-in_err-found-clause-none : goal.returns-in_err-found-clause-none
+returns-in_err-found-clause-none c =
+    let met = rw c.members-members.ensures at c.in_err-found.ensures.steps.0 in
+    (λ _. no_member c.args.set (omega arith) met, λ _. rw c.from_residual.ensures refl)
 
 pub offset_bounds-delay-l : goal.offset_bounds-delay-l
-offset_bounds-delay-l c = omega (arith, low (goal.at.offset_bounds-delay-l c).In-loop-rest, c.lowest-l.ensures)
+offset_bounds-delay-l c = omega (arith, (next_in _ _ _ c.in-Some.ensures.steps).0)
 
 pub bounds-delay-l : goal.bounds-delay-l
-bounds-delay-l c = omega (arith, low (goal.at.bounds-delay-l c).In-loop-rest, c.lowest-l.ensures)
+bounds-delay-l c = (next_in _ _ _ c.in-Some.ensures.steps).0
 
-pub offset_bounds-delay-found : goal.offset_bounds-delay-found
-offset_bounds-delay-found c = omega (arith, found_in (goal.at.offset_bounds-delay-found c).In-loop-rest)
+pub returns-clause-none : goal.returns-clause-none
+returns-clause-none c =
+    let some = some_member c.args.set _ _ (rw c.members-members.ensures at c.in_ok-found.ensures.steps) in
+    (λ e. absurd (not_both refl e), λ z. absurd (omega (arith, some)))
 
-pub bounds-delay-found : goal.bounds-delay-found
-bounds-delay-found c = found_in (goal.at.bounds-delay-found c).In-loop-rest
-
-pub loop-rest-smaller : goal.loop-rest-smaller
-loop-rest-smaller c = omega (arith, c.without_lowest-rest.ensures.1)
-
-pub loop-rest-preserved : goal.loop-rest-preserved
-unfolding earlier
-loop-rest-preserved c =
-    let s = c.loop-rest in
-    rw (c.select_usize-found.ensures, c.lowest-l.ensures)
-    (walk_next _ _ _ s.rest c.without_lowest-rest.result s.found s.invariant (omega arith) c.without_lowest-rest.ensures.1
-    c.without_lowest-rest.ensures.0)
-
-pub returns : goal.returns
-returns c = walk_done _ _ _ _ (rw c.loop-rest-test.false at c.loop-rest.invariant)
+pub returns-clause-member : goal.returns-clause-member
+returns-clause-member c =
+    let some = some_member c.args.set _ _ (rw c.members-members.ensures at c.in_ok-found.ensures.steps) in
+    let is : c.loop-l.found ≡ earliest_of c.args.delay.now c.args.set = rw c.in-None.ensures.steps.0 at c.loop-l.invariant.1 in
+    rw is (earliest_member c.args.delay.now c.args.set (omega arith) some)

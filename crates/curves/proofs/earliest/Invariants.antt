@@ -1,11 +1,11 @@
-use Rattle.base.specs.Range.{first}
-use Rattle.base.specs.Set.{has, word_bits}
-use Rattle.base.proofs.WalkLaws.{Walked}
-use Rattle.curves.specs.Rows.{earlier}
+use Prim.Native.Nat.{◌<◌}
+use mathlib.Core.Path.{◌≡◌}
+use Rattle.std.specs.List.{fold}
+use Rattle.base.specs.Set.{word_bits}
+use Rattle.base.specs.Walk.{walk_left}
+use Rattle.curves.specs.Rows.{earlier, earliest_of}
 use Rattle.curves.proofs.earliest.Given as goal
 
-abbrev pub invariant-loop-rest : goal.invariant-loop-rest
-invariant-loop-rest l = Walked (earlier l.delay) (first (has l.set) word_bits) l.set l.rest l.found
-
-abbrev pub decreases-loop-rest : goal.decreases-loop-rest
-decreases-loop-rest l = l.rest
+abbrev pub invariant-loop-l : goal.invariant-loop-l
+invariant-loop-l l =
+    (l.found < word_bits) × (fold (earlier l.delay) l.found (walk_left l.l-iterator) ≡ earliest_of l.delay l.set)

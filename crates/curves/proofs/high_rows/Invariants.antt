@@ -1,7 +1,7 @@
 use mathlib.Core.Path.{◌≡◌}
 use mathlib.Core.List.{◌++◌}
-use Prim.Native.Nat.{◌-◌, ◌*◌, ◌≤◌}
-use lib.ListN.{length, drop}
+use Prim.Native.Nat.{◌*◌}
+use lib.ListN.{drop}
 use Rattle.job.specs.Read.{tree_in}
 use Rattle.job.specs.Sums.{sums_in, last_in}
 use Rattle.curves.specs.Rows.{high_rows}
@@ -9,9 +9,5 @@ use Rattle.curves.proofs.high_rows.Given as goal
 
 abbrev pub invariant-loop-i : goal.invariant-loop-i
 invariant-loop-i l =
-    (l.i ≤ l.links)
-    × ((l.start ≡ l.i * l.width)
-    × ((length l.table ≡ length l.initial.table) × (l.table ≡ high_rows (tree_in l.job) (sums_in l.sums) (last_in l.sums) l.width l.i ++ drop l.start l.initial.table)))
-
-abbrev pub decreases-loop-i : goal.decreases-loop-i
-decreases-loop-i l = l.links - l.i
+    let sums = l.film.sums.t.now in
+    l.table ≡ high_rows (tree_in l.film.job.now) (sums_in sums) (last_in sums) l.width l.i ++ drop (l.i * l.width) l.initial.table

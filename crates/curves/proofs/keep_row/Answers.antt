@@ -1,4 +1,3 @@
-use Rattle.base.proofs.BoolLaws.{not_both}
 use mathlib.Core.Path.{◌≡◌, refl, ◌∙◌}
 use lib.ListN.{length, get_or}
 use Rattle.job.specs.Read.{tree_in}
@@ -10,27 +9,25 @@ use Rattle.curves.proofs.keep_row.Goals as goal
 pub returns-then-c-u : goal.returns-then-c-u
 returns-then-c-u c =
     let same : c.args.c ≡ c.args.u = omega arith in
-    rw same at (c.requires.1.1.1 (omega arith))
+    rw same at (c.requires.1.1 (omega arith))
 
 pub raise_by_leaves-requires : goal.raise_by_leaves-requires
 raise_by_leaves-requires c =
     let less = c.lessen in
-    let kept = c.requires.1.1 in
-    let small = less_in_range _ c.requires.0.tree _ c.requires.0.film c.args.c _ _ (omega arith, kept.0) _ less.new.out
-    (kept.1 (omega arith)) less.ensures in
-    record {
-      holds_sums = (c.requires.0.film, (omega arith, λ f. absurd (not_both f refl)));
-      taken_before = none-taken _ c.requires.0.film 0 _ less.new.out refl small;
-    }
+    let kept = c.requires.1 in
+    let within = c.args.film.with_sums in
+    let small = less_in_range _ within.tree _ within.film c.args.c _ _ (omega arith, kept.0) _ less.new.out (kept.1 (omega arith))
+    less.ensures in
+    none-taken _ within.film 0 _ less.new.out refl small
 
 pub returns : goal.returns
 returns c =
     let a = c.args in
-    let parent : get_or a.job.parent a.u 0 ≡ a.c = omega arith in
-    let row = rw (← parent) at (c.requires.1.1.1 (omega arith)) in
+    let parent : get_or a.film.job.now.parent a.u 0 ≡ a.c = omega arith in
+    let row = rw (← parent) at (c.requires.1.1 (omega arith)) in
     let less = rw (← parent) at c.lessen.ensures in
     c.raise_by_leaves.ensures.raised
     ∙ rw less
-    (near_own (tree_in a.job) c.requires.0.tree a.sums.now a.u c.requires.1.0 (omega arith) (length a.kept.now)
+    (near_own (tree_in a.film.job.now) c.args.film.with_sums.tree a.film.sums.t.now a.u c.requires.0 (omega arith) (length a.kept.now)
     a.kept.now row
     _ c.leaves_at.ensures)

@@ -4,4 +4,4 @@ use Rattle.curves.proofs.leaf_lower.Goals as goal
 
 pub returns : goal.returns
 unfolding leaf_lower
-returns c = c.max.ensures ∙ rw c.minus.ensures
+returns c = c.max.ensures ∙ rw c.saturating_sub.ensures

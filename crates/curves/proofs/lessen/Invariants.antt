@@ -1,10 +1,7 @@
 use Rattle.base.specs.Table.{Filled}
-use lib.ListN.{length, get_or}
+use lib.ListN.{get_or}
 use Prim.Native.Nat.{◌-◌}
 use Rattle.curves.proofs.lessen.Given as goal
 
-abbrev pub invariant-loop-k : goal.invariant-loop-k
-invariant-loop-k l = Filled (λ k. get_or l.initial.out k 0 - l.less) l.k l.initial.out l.out
-
-abbrev pub decreases-loop-k : goal.decreases-loop-k
-decreases-loop-k l = length l.initial.out - l.k
+abbrev pub invariant-loop-x : goal.invariant-loop-x
+invariant-loop-x l = Filled (λ k. get_or l.initial.out k 0 - l.less) l.x-index l.initial.out l.out

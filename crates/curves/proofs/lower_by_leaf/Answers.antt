@@ -1,60 +1,39 @@
 use Rattle.job.specs.Limits.{greatest_memory}
-use Rattle.job.specs.Sums.{last_in}
 use Rattle.curves.specs.Rows.{lowered_by}
 use Rattle.curves.proofs.MidLaws.{lower_parts, part_get}
-use Rattle.job.proofs.SumsLaws.{place-fits}
+use Rattle.curves.proofs.RowLaws.{sums_range}
 use Rattle.job.proofs.TreeLaws.{link_is}
 use lib.ListN.{length, take, drop, get_or}
-use borrow.Rule.Slice.PartMut.{same_len_mid}
-use Rattle.base.proofs.TableLaws.{length_part}
-use lib.Seq.{get_or-take}
-use mathlib.Core.Path.{◌≡◌, refl, ap, sym, ◌∙◌}
-use Prim.Native.Nat.{ℕ, ◌+◌, ◌-◌, ◌≤◌, ◌<◌, min}
+use mathlib.Core.Path.{refl, ap, ◌∙◌}
+use Prim.Native.Nat.{ℕ, ◌+◌, ◌-◌, ◌≤◌}
 use native.Mathlib.Omega.{arith}
 use Rattle.curves.proofs.lower_by_leaf.Goals as goal
 use Rattle.curves.proofs.lower_by_leaf.Goals.{Start}
 
 -- the leaf's memory is within the limits
-memory-fits : (c : Start) → get_or c.args.job.memory c.args.l 0 ≤ greatest_memory
-memory-fits c = c.requires.0.tree.memories c.args.l (link_is _ c.args.l c.requires.1.0 c.requires.1.1)
+memory-fits : (c : Start) → get_or c.args.film.job.now.memory c.args.l 0 ≤ greatest_memory
+memory-fits c = c.args.film.with_sums.tree.memories c.args.l (link_is _ c.args.l c.requires.0 c.requires.1)
 
 pub overflow_add-last : goal.overflow_add-last
-unfolding last_in
-overflow_add-last c = omega (arith, c.requires.0.film.fits, memory-fits (goal.at.overflow_add-last c).Start)
+overflow_add-last c = omega (arith, c.args.film.with_sums.film.fits, memory-fits (goal.at.overflow_add-last c).Start)
 
-pub lower_by-requires : goal.lower_by-requires
-lower_by-requires c =
-    let sums = c.args.sums.now in
-    let n = c.min_usize-count in
-    let s = c.min_usize-start in
-    let low = c.lower_all in
-    let long = same_len_mid 0 (s.result - 0) c.args.out.now low.new.out low.auto.out in
-    let in-sums : n.result ≤ length sums = omega (arith, n.ensures) in (
-      length_part 0 n.result sums (omega arith) in-sums
-          ∙ omega arith
-          ∙ sym (length_part s.result (s.result + n.result) _ (omega arith) (inside _ _ _ _ _ long s.ensures n.ensures)),
-      (
-        memory-fits (goal.at.lower_by-requires c).Start,
-        λ k q.
-            let h : k < n.result - 0 = rw (length_part 0 n.result sums (omega arith) in-sums) at q in
-            rw (get_or-take (n.result - 0) sums k 0 h) (place-fits sums c.requires.0.film k (omega arith)),
-      ),
-    )
-  where
-    inside : (s n delay frames long : ℕ) → {x : ℕ} → x ≡ long → s ≡ min delay long → n ≡ min (long - s) frames → s + n ≤ x
-    inside s n delay frames long e f g = omega arith
+pub lower_row_more-requires-clause-small : goal.lower_row_more-requires-clause-small
+lower_row_more-requires-clause-small c = memory-fits (goal.at.lower_row_more-requires-clause-small c).Start
+
+pub lower_row_more-requires-clause-in_range : goal.lower_row_more-requires-clause-in_range
+lower_row_more-requires-clause-in_range c = search (arith, sums_range _ c.args.film.with_sums.film)
 
 pub returns : goal.returns
-unfolding lowered_by last_in
+unfolding lowered_by
 returns c =
     let a = c.args in
-    let s = c.min_usize-start.result in
-    let n = c.min_usize-count.result in
-    lower_parts a.out.now a.sums.now (take (n - 0) (drop 0 a.sums.now)) _ _ _ c.requires.0.film
-    (get_or a.job.delay a.l 0) (get_or a.job.memory a.l 0) s n (s - 0)
+    let s = c.min-start.result in
+    let n = c.min-count.result in
+    lower_parts a.out.now a.film.sums.t.now (take (n - 0) (drop 0 a.film.sums.t.now)) _ _ _ c.args.film.with_sums.film
+    (get_or a.film.job.now.delay a.l 0) (get_or a.film.job.now.memory a.l 0) s n (s - 0)
     (s + n - s) (length a.out.now - (s + n))
-    c.min_usize-start.ensures
-    c.min_usize-count.ensures
+    c.min-start.ensures
+    c.min-count.ensures
     (omega arith) (omega arith) refl
-    (λ j h. part_get a.sums.now 0 (n - 0) j (omega arith) ∙ ap (λ (z : ℕ). get_or a.sums.now z 0) (omega arith))
-    c.lower_all.ensures c.lower_by.ensures c.lower_all-2.ensures
+    (λ j h. part_get a.film.sums.t.now 0 (n - 0) j (omega arith) ∙ ap (λ (z : ℕ). get_or a.film.sums.t.now z 0) (omega arith))
+    c.lower_all.ensures c.lower_row_more.ensures (rw c.total.ensures at c.lower_all-2.ensures)

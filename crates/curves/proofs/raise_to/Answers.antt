@@ -1,4 +1,4 @@
-use Rattle.base.proofs.TableLaws.{filled_none, filled_more, filled-ahead, filled-done}
+use Rattle.base.proofs.TableLaws.{filled_none, filled_more, filled-ahead}
 use lib.ListN.{get_or}
 use mathlib.Core.List.{List}
 use mathlib.Core.Path.{◌≡◌, ◌∙◌}
@@ -9,19 +9,13 @@ use Rattle.curves.proofs.raise_to.Goals as goal
 abbrev row : List ℕ → ℕ → ℕ → ℕ
 row out value k = max (get_or out k 0) value
 
-pub loop-k-init : goal.loop-k-init
-loop-k-init c = filled_none _ _
+pub loop-x-init : goal.loop-x-init
+loop-x-init c = filled_none _ _
 
-pub loop-k-preserved : goal.loop-k-preserved
-loop-k-preserved c =
-    let l = c.loop-k in
+pub loop-x-preserved : goal.loop-x-preserved
+loop-x-preserved c =
+    let l = c.loop-x in
     let a = c.args in
-    let e : c.max.result ≡ row a.out.now a.value l.k = c.max.ensures
-    ∙ rw (filled-ahead _ l.k _ l.out l.invariant (omega arith)) in
-    rw e (filled_more (row a.out.now a.value) l.k _ l.out l.invariant (omega arith))
-
-pub shape_of-out : goal.shape_of-out
-shape_of-out c = c.loop-k.invariant.1.0
-
-pub returns : goal.returns
-returns c = let a = c.args in filled-done (row a.out.now a.value) _ _ _ c.loop-k.invariant (omega arith)
+    let e : c.max.result ≡ row a.out.now a.value l.x-index = c.max.ensures
+    ∙ rw (filled-ahead _ l.x-index _ l.out l.invariant (omega arith)) in
+    rw e (filled_more (row a.out.now a.value) l.x-index _ l.out l.invariant (omega arith))

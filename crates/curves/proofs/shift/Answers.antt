@@ -1,5 +1,5 @@
 use Rattle.job.specs.Sums.{sums_in}
-use Rattle.base.proofs.TableLaws.{filled_none, filled_more, filled-done}
+use Rattle.base.proofs.TableLaws.{filled_none, filled_more}
 use lib.ListN.{get_or}
 use mathlib.Core.Path.{◌≡◌}
 use Prim.Native.Nat.{◌-◌}
@@ -8,7 +8,7 @@ use Rattle.curves.proofs.shift.Goals as goal
 use Rattle.curves.proofs.shift.Goals.{After-place}
 
 pub loop-k-init : goal.loop-k-init
-loop-k-init c = (omega arith, filled_none _ _)
+loop-k-init c = filled_none _ _
 
 value : (c : After-place) → let l = c.loop-k in let a = c.args in
     get_or a.sums.now c.place.result 0 ≡ sums_in a.sums.now (l.k - a.delay)
@@ -19,10 +19,4 @@ pub loop-k-preserved : goal.loop-k-preserved
 loop-k-preserved c =
     let l = c.loop-k in
     let a = c.args in
-    (l.invariant.0, rw (value (goal.at.loop-k-preserved c).After-place) (filled_more (λ k. sums_in a.sums.now (k - a.delay)) l.k _ l.out l.invariant.1 (omega arith)))
-
-pub shape_of-out : goal.shape_of-out
-shape_of-out c = c.loop-k.invariant.1.1.0
-
-pub returns : goal.returns
-returns c = filled-done (λ k. sums_in _ (k - _)) _ _ _ c.loop-k.invariant.1 (omega arith)
+    rw (value (goal.at.loop-k-preserved c).After-place) (filled_more (λ k. sums_in a.sums.now (k - a.delay)) l.k _ l.out l.invariant (omega arith))

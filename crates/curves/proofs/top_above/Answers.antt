@@ -7,11 +7,11 @@ use Rattle.curves.proofs.top_above.Goals as goal
 pub loop-a-smaller : goal.loop-a-smaller
 loop-a-smaller c =
     let l = c.loop-a in
-    parent-lower (tree_in c.args.job) c.requires.0 l.a (omega (arith, l.invariant, c.requires.1))
+    parent-lower (tree_in c.args.job.now) c.requires.0 l.a (omega (arith, l.invariant, c.requires.1))
 
 pub loop-a-preserved : goal.loop-a-preserved
 loop-a-preserved c =
     let l = c.loop-a in (
       omega arith,
-      omega (arith, parent-lower (tree_in c.args.job) c.requires.0 l.a (omega (arith, l.invariant, c.requires.1)), l.invariant),
+      omega (arith, parent-lower (tree_in c.args.job.now) c.requires.0 l.a (omega (arith, l.invariant, c.requires.1)), l.invariant),
     )

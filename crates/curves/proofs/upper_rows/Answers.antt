@@ -6,20 +6,23 @@ use Rattle.curves.proofs.AllRowsLaws.{high_range, opened}
 use native.Mathlib.Omega.{arith}
 use Rattle.curves.proofs.upper_rows.Goals as goal
 
+pub invariant_of-links : goal.invariant_of-links
+invariant_of-links c =
+    let t = c.args.film.with_sums.tree in record {
+      some_node = omega (arith, t.nodes_from);
+      nodes_to = t.nodes_to;
+      ordered = λ v q. t.parents v (link_is c.args.film.job.now.nodes v q.0 q.1);
+    }
+
 pub open_rows-requires : goal.open_rows-requires
 open_rows-requires c =
     let a = c.args in
     let h = c.high_rows in
+    let t = a.film.with_sums.tree in
     record {
-      closable = record {
-        some_node_lem = omega (arith, c.requires.0.tree.nodes_from);
-        nodes_to = c.requires.0.tree.nodes_to;
-        width_to = c.requires.1.0;
-        ordered = λ v q. c.requires.0.tree.parents v (link_is a.job.nodes v q.0 q.1);
-        sized = h.auto.table ∙ c.requires.1.1;
-      };
-      in_range = rw h.ensures (high_range _ c.requires.0.tree _ _ a.width (a.job.nodes - 1) c.requires.0.film.fits);
-      memories = λ v q. c.requires.0.tree.memories v (link_is a.job.nodes v q.0 q.1);
+      closable = record { width_to = c.requires.0; sized = h.auto.table ∙ c.requires.1 };
+      in_range = rw h.ensures (high_range _ t _ _ a.width (a.film.job.now.nodes - 1) a.film.with_sums.film.fits);
+      memories = λ v q. t.memories v (link_is a.film.job.now.nodes v q.0 q.1);
     }
 
 pub returns : goal.returns
@@ -27,5 +30,5 @@ returns c =
     let a = c.args in
     let h = c.high_rows in
     let o = c.open_rows in
-    opened _ c.requires.0.tree _ _ a.width (a.job.nodes - 1) refl h.new.table o.new.plan h.ensures (o.auto.plan
-    ∙ h.auto.table ∙ c.requires.1.1) o.ensures
+    opened _ c.args.film.with_sums.tree _ _ a.width (a.film.job.now.nodes - 1) refl h.new.table o.new.plan h.ensures (o.auto.plan
+    ∙ h.auto.table ∙ c.requires.1) o.ensures

@@ -1,7 +1,7 @@
 -- From the work on an accepted job to the memory question's answer.
 use mathlib.Core.List.{List}
 use mathlib.Core.Path.{◌≡◌, refl, ap, sym, ◌∙◌}
-use mathlib.Core.Logic.{inr}
+use mathlib.Core.Logic.{inl, inr}
 use Prim.Native.Nat.{ℕ, zero, suc, ◌+◌, ◌-◌, ◌*◌, ◌≤◌}
 use native.Mathlib.Omega.{arith}
 use native.Mathlib.Decide.{ℕ_discrete}
@@ -13,11 +13,13 @@ use Rattle.base.proofs.BoolLaws.{and_no_right}
 use Rattle.base.proofs.TableLaws.{length-tab, get_or-tab, get_d_rows, tab_cong}
 use Rattle.job.specs.Tree.{Tree, JobData, JobWithin, T, greatest_delay, H, plan_length}
 use Rattle.job.specs.Bytes.{frame_count, job_of}
+use Rattle.job.specs.Refusal as job
 use Rattle.job.specs.Refusal.{refusal, bad_lent}
+use Rattle.job.specs.declared.Refusal as declared
 use Rattle.job.specs.Read.{tree_in, Accepted}
 use Rattle.job.specs.declared.Job.{Job}
 use Rattle.job.proofs.SlotLaws.{leaf-link}
-use Rattle.job.proofs.RefusalLaws.{accepted_within}
+use Rattle.job.proofs.RefusalLaws.{number_none, accepted_within}
 use Rattle.smoothing.specs.Tree.{Link}
 use Rattle.smoothing.specs.Row.{peak, least_peak}
 use Rattle.smoothing.specs.Plan.{Problem, Feasible, link_peak, plan}
@@ -28,13 +30,16 @@ use Rattle.curves.specs.Curves.{lower_curve, upper_curve, problem}
 use Rattle.curves.proofs.CurveEq.{lower_is, upper_is}
 use Rattle.job.specs.Sums.{sums_in, last_in}
 use Rattle.job.proofs.SumsLaws.{sums_of_lem, last_of}
-use Rattle.planner.specs.declared.Answer.{Answer}
-use Rattle.planner.specs.declared.Answer.TheVariants.{Refused, Planned}
+use Rattle.std.proofs.Common.{Result, Ok, Err, IsErrAnd}
+use Rattle.planner.specs.declared.Planned.{Planned}
+use Rattle.planner.specs.declared.Refusal.{Refusal}
+use Rattle.planner.specs.declared.Refusal.TheVariants.{Job as OfJob}
 use Rattle.planner.specs.Rules.{Best}
-use Rattle.planner.specs.Answer.{early_refusal, plan_in, Answers}
+use Rattle.planner.specs.Answer.{number, early_refusal, plan_in, Answers}
 use Rattle.planner.specs.Work.{Starves, AllFed, width_of, plan_rows_of, peaks_of, Worked}
 use Rattle.planner.proofs.WorkLaws.{least_peak-same}
-use Rattle.planner.proofs.KeepLaws.{problem_of, well_formed, to_theory, best_of_optimal, optimal_of_best, no_plan_lem, plan_best, feasible_by_leaves}
+use Rattle.planner.proofs.KeepLaws.{problem_of, well_formed, to_theory, best_of_optimal, optimal_of_best, no_plan_lem, plan_best}
+use Rattle.planner.proofs.KeepLaws.{feasible_by_leaves}
 
 -- ---- refusals 1 to 11
 
@@ -53,6 +58,19 @@ early_peaks s p q h ne = rw (h, and_no_right (eqb p (plan_length (job_of s))) (n
 pub early_none : (s : List ℕ) (p q : ℕ) → refusal s ≡ 0 → p ≡ plan_length (job_of s) → q ≡ (job_of s).tree.n - 1 → early_refusal s p q ≡ 0
 unfolding early_refusal
 early_none s p q h e f = rw (h, eq-eqb p (plan_length (job_of s)) e, eq-eqb q ((job_of s).tree.n - 1) f) refl
+
+-- what is refused so leaves plan and peaks
+module _ (s plan peaks : List ℕ) where
+  pub answered-early : (e : declared.Refusal) → job.number e ≡ early_refusal s (length plan) (length peaks)
+      → Answers (Err (OfJob e)) s plan plan peaks peaks
+  unfolding Answers
+  answered-early e h = (refl, (refl, inl (h, λ z. number_none e (h ∙ z))))
+
+  -- and so where a `?` passes the job's refusal on
+  pub answered-passed : (r : Result Planned Refusal) (e : declared.Refusal) → IsErrAnd r (λ x. x ≡ OfJob e)
+      → job.number e ≡ early_refusal s (length plan) (length peaks) → Answers r s plan plan peaks peaks
+  answered-passed (Ok x) e h k = absurd h
+  answered-passed (Err x) e h k = rw h (answered-early e k)
 
 -- ---- the plan in the list is the theory's plan
 
@@ -126,15 +144,25 @@ module _ (s : List ℕ) (job : Job) (acc : Accepted s job) where
     none_early : early_refusal s (length plan₀) (length peaks₀) ≡ 0
     none_early = early_none s (length plan₀) (length peaks₀) acc.none long short
 
-    pub answered : (answer : Answer) → Worked answer job sums (width_of job) plan₀ plan₁ peaks₀ peaks₁ → Answers answer s plan₀ plan₁ peaks₀ peaks₁
+    pub answered : (answer : Result Planned Refusal) → Worked answer job sums (width_of job) plan₀ plan₁ peaks₀ peaks₁
+        → Answers answer s plan₀ plan₁ peaks₀ peaks₁
     unfolding Worked Answers
-    answered (Refused e) w =
+    answered (Err e) w =
         let (i, is_leaf, k, h, crosses) =
         starves_at (tree_in job) j.tree (sums_in sums) (T j) (last_in sums) (T j j.M) (width_of job) (H j + 1) acc.held (sums_of_lem j) (last_of j) width_is w.1.0 in (
           w.1.1.0,
-          (w.1.1.1, inr (none_early, (w.0, no_plan_lem j acc.within i (leaf-link j.tree acc.within.tree i is_leaf) k (omega arith) crosses))),
+          (
+            w.1.1.1,
+            inr (
+              none_early,
+              (
+                ap number w.0,
+                no_plan_lem j acc.within i (leaf-link j.tree acc.within.tree i is_leaf) k (omega arith) crosses,
+              ),
+            ),
+          ),
         )
-    answered (Planned last total) w =
+    answered (Ok planned) w =
         let fed = fed_at (tree_in job) j.tree (sums_in sums) (T j) (last_in sums) (T j j.M) (width_of job) (H j + 1) acc.held (sums_of_lem j) (last_of j) width_is w.1.1.0 in
         let rows = rows_is w.1.1.1.0 in (
           none_early,
@@ -164,12 +192,12 @@ early_accepts s p q h = go (ℕ_discrete (refusal s) 0)
     go (no ne) = sym (early_read s p q ne) ∙ h
 
 -- each peak given is the least peak of its link by document 01's formula, which is `least_peak`, over document 01's own curves
-pub peaks_least : (last total : ℕ) (s plan₀ plan₁ peaks₀ peaks₁ : List ℕ) → Answers (Planned last total) s plan₀ plan₁ peaks₀ peaks₁
+pub peaks_least : (planned : Planned) (s plan₀ plan₁ peaks₀ peaks₁ : List ℕ) → Answers (Ok planned) s plan₀ plan₁ peaks₀ peaks₁
     → let j = job_of s in
     peaks₁ ≡ tab (λ i. least_peak (H j) (lower_curve j.tree (T j) (suc i)) (upper_curve j.tree (T j) (T j j.M) (suc i)))
     (j.tree.n - 1)
 unfolding Answers link_peak
-peaks_least last total s plan₀ plan₁ peaks₀ peaks₁ (early, (is_last, (is-total, (rows, (best, peaks))))) =
+peaks_least planned s plan₀ plan₁ peaks₀ peaks₁ (early, (is_last, (is-total, (rows, (best, peaks))))) =
     let j = job_of s in
     let within = accepted_within s (early_accepts s (length plan₀) (length peaks₀) early) in
     let feasible = plan_feasible (problem_of j) (well_formed j within) (plan_in j plan₁)

@@ -6,41 +6,53 @@ use Prim.Native.Nat.{ℕ, ◌+◌, ◌-◌, ◌*◌, ◌≤◌}
 use native.Mathlib.Omega.{arith}
 use borrow.Author.Tests.{eq-eqb, ne_eqb, eqb-true}
 use lib.Dec.{eqb}
-use lib.ListN.{length, take, drop, length-take}
+use lib.ListN.{length, length-take}
 use Rattle.base.proofs.BoolLaws.{and_left, and_right}
 use Rattle.base.proofs.TableLaws.{row_end}
 use Rattle.job.specs.Bytes.{job_of}
 use Rattle.job.specs.Refusal.{refusal}
 use Rattle.job.specs.Tree.{JobData, link, H, plan_length}
 use Rattle.job.proofs.TreeLaws.{link_in}
-use Rattle.planner.specs.Answer.{row_place, row_of}
+use Rattle.planner.specs.Answer.{row_place, part_at, row_of}
+use Rattle.std.proofs.Common.{Some, None, Result, Ok, Err}
+use Rattle.std.specs.Result.{result_ok}
+use Rattle.job.specs.Read.{Reads, Accepted}
+use Rattle.job.specs.declared.Job.{Job}
+use Rattle.job.specs.declared.Refusal.{Refusal}
+use Rattle.job.proofs.RefusalLaws.{read_accepts, read_refuses}
 use Rattle.planner.specs.declared.Place.{Place}
+
+-- ---- a job read or nothing
+
+pub read_some : (s : List ℕ) (r : Result Job Refusal) (job : Job) → result_ok r ≡ Some job → Reads r s → Accepted s job
+read_some s (Ok x) job e h = let same : x ≡ job = cc in read_accepts s job (rw same at h)
+read_some s (Err x) job e h = cc
+
+pub read_none : (s : List ℕ) (r : Result Job Refusal) → result_ok r ≡ None → Reads r s → refusal s ≡ 0 → ⊥
+read_none s (Ok x) e h = cc
+read_none s (Err x) e h = read_refuses s x h
 
 -- ---- the place in each case
 
--- no place
-abbrev pub nowhere : Place
-nowhere = record { start = 0; slots = 0 }
-
 -- where the job is refused there is none
-pub refused_nowhere : (s : List ℕ) (planned i : ℕ) → (refusal s ≡ 0 → ⊥) → nowhere ≡ row_place s planned i
+pub refused_nowhere : (s : List ℕ) (planned i : ℕ) → (refusal s ≡ 0 → ⊥) → row_place s planned i ≡ None
 unfolding row_place
 refused_nowhere s planned i h = rw (ne_eqb (refusal s) 0 h) refl
 
 -- where there is no such link there is none
-pub no_link_nowhere : (s : List ℕ) (planned i : ℕ) → refusal s ≡ 0 → link (job_of s).tree.n i ≡ false → nowhere ≡ row_place s planned i
+pub no_link_nowhere : (s : List ℕ) (planned i : ℕ) → refusal s ≡ 0 → link (job_of s).tree.n i ≡ false → row_place s planned i ≡ None
 unfolding row_place
 no_link_nowhere s planned i h l = rw (h, l) refl
 
 -- where the plan has another length there is none
 pub no_plan_nowhere : (s : List ℕ) (planned i : ℕ) → refusal s ≡ 0 → link (job_of s).tree.n i ≡ true → (planned ≡ plan_length (job_of s) → ⊥)
-    → nowhere ≡ row_place s planned i
+    → row_place s planned i ≡ None
 unfolding row_place
 no_plan_nowhere s planned i h l k = rw (h, l, ne_eqb planned (plan_length (job_of s)) k) refl
 
 -- else it is that of row i - 1 of rows of H + 1
 pub place_is : (s : List ℕ) (planned i w : ℕ) → refusal s ≡ 0 → link (job_of s).tree.n i ≡ true → planned ≡ plan_length (job_of s) → w ≡ H (job_of s) + 1
-    → record { start = (i - 1) * w; slots = w } ≡ row_place s planned i
+    → row_place s planned i ≡ Some (record { start = (i - 1) * w; slots = w })
 unfolding row_place
 place_is s planned i w h l k e = rw (h, l, eq-eqb planned (plan_length (job_of s)) k, e) refl
 
@@ -60,21 +72,24 @@ placed s planned i = eqb (refusal s) 0 && (link (job_of s).tree.n i && eqb plann
 abbrev there : List ℕ → ℕ → Place
 there s i = record { start = (i - 1) * (H (job_of s) + 1); slots = H (job_of s) + 1 }
 
-pub place_inside : (s : List ℕ) (planned i : ℕ) → (row_place s planned i).start + (row_place s planned i).slots ≤ planned
+pub place_inside : (s : List ℕ) (planned i : ℕ) (p : Place) → row_place s planned i ≡ Some p → p.start + p.slots ≤ planned
 unfolding row_place
-place_inside s planned i = either (placed s planned i) refl
+place_inside s planned i p = either (placed s planned i) refl
   where
-    either : (b : Bool) → placed s planned i ≡ b → (cond b (there s i) nowhere).start + (cond b (there s i) nowhere).slots ≤ planned
-    either true h =
+    either : (b : Bool) → placed s planned i ≡ b → cond b (Some (there s i)) None ≡ Some p → p.start + p.slots ≤ planned
+    either true h e =
         let r = and_right (eqb (refusal s) 0) _ h in
-        row_inside (job_of s) planned i (H (job_of s) + 1) (and_left _ _ r) (eqb-true planned (plan_length (job_of s)) (and_right (link (job_of s).tree.n i) _ r)) refl
-    either false h = omega arith
+        let same : there s i ≡ p = cc in
+        rw (← same)
+        (row_inside (job_of s) planned i (H (job_of s) + 1) (and_left _ _ r)
+        (eqb-true planned (plan_length (job_of s)) (and_right (link (job_of s).tree.n i) _ r)) refl)
+    either false h e = cc
 
 -- a row has at most H + 1 numbers
 pub row_most : (s plan : List ℕ) (i : ℕ) → length (row_of s plan i) ≤ H (job_of s) + 1
 unfolding row_of row_place
 row_most s plan i = either (placed s (length plan) i)
   where
-    either : (b : Bool) → length (take (cond b (there s i) nowhere).slots (drop (cond b (there s i) nowhere).start plan)) ≤ H (job_of s) + 1
+    either : (b : Bool) → length (part_at (cond b (Some (there s i)) None) plan) ≤ H (job_of s) + 1
     either true = rw length-take (omega arith)
-    either false = rw length-take (omega arith)
+    either false = omega arith

@@ -19,7 +19,7 @@ use Rattle.rows.specs.Row.{row_in, lazy_row, least_peak_of}
 use Rattle.smoothing.specs.Row.{least_peak, lazy_before, lazy}
 use Rattle.smoothing.specs.Plan.{Problem, lower, upper, link_peak, lazy_plan, plan}
 use Rattle.curves.specs.Curves.{lower_curve, upper_curve}
-use Rattle.job.specs.Sums.{sums_in, last_in}
+use Rattle.job.specs.Sums.{sums_in, last_in, WithSums}
 use Rattle.job.proofs.SumsLaws.{film_of}
 use Rattle.curves.proofs.CurveEq.{lower_is, upper_is, lower_top}
 use Rattle.rows.specs.Search.{Searchable}
@@ -51,7 +51,8 @@ unfolding upper_curve
 upper_top t T top i zero = omega arith
 upper_top t T top i (suc k) = omega arith
 
-module _ (job : Job) (sums lowers kept : List ℕ) (ready : Ready job sums lowers kept) (v : ℕ) (is-link : Link job.nodes v) where
+module _ (job : Job) (sums lowers kept : List ℕ) (given : WithSums job sums) (ready : Ready lowers kept) (v : ℕ)
+    (is-link : Link job.nodes v) where
   t : Tree
   t = tree_in job
 
@@ -66,7 +67,7 @@ module _ (job : Job) (sums lowers kept : List ℕ) (ready : Ready job sums lower
 
   pub curves_searchable : Searchable lower_row upper_row
   curves_searchable =
-      let film = film_of sums ready.given.film in
+      let film = film_of sums given.film in
       let long = length-tab (lower_curve (tree_in job) (sums_in sums) v) (length lowers) in
       let long' = length-tab (upper_curve (tree_in job) (sums_in sums) (last_in sums) v) (length lowers) in
       record {
@@ -77,27 +78,27 @@ module _ (job : Job) (sums lowers kept : List ℕ) (ready : Ready job sums lower
             omega (
               arith,
               get_or-tab (lower_curve (tree_in job) (sums_in sums) v) (length lowers) k (omega (arith, long)),
-              lower_top (tree_in job) ready.given.tree (sums_in sums) (last_in sums) 0 film v k is-link,
-              ready.given.film.fits,
+              lower_top (tree_in job) given.tree (sums_in sums) (last_in sums) 0 film v k is-link,
+              given.film.fits,
             );
         upper_to = λ k h.
             omega (
               arith,
               get_or-tab (upper_curve (tree_in job) (sums_in sums) (last_in sums) v) (length lowers) k (omega (arith, long')),
               upper_top (tree_in job) (sums_in sums) (last_in sums) v k,
-              ready.given.film.fits,
+              given.film.fits,
             );
       }
 
   lower_here : (k : ℕ) → k ≤ length lowers - 1 → row_in lower_row k ≡ lower (problem_in job sums (length lowers)) v k
   lower_here k h =
       get_or-tab (lower_curve (tree_in job) (sums_in sums) v) (length lowers) k (omega (arith, ready.wide))
-      ∙ lower_is (tree_in job) ready.given.tree (sums_in sums) (last_in sums) (length lowers - 1) v k is-link
+      ∙ lower_is (tree_in job) given.tree (sums_in sums) (last_in sums) (length lowers - 1) v k is-link
 
   upper_here : (k : ℕ) → k ≤ length lowers - 1 → row_in upper_row k ≡ upper (problem_in job sums (length lowers)) v k
   upper_here k h =
       get_or-tab (upper_curve (tree_in job) (sums_in sums) (last_in sums) v) (length lowers) k (omega (arith, ready.wide))
-      ∙ upper_is (tree_in job) ready.given.tree (sums_in sums) (last_in sums) (length lowers - 1) v k is-link
+      ∙ upper_is (tree_in job) given.tree (sums_in sums) (last_in sums) (length lowers - 1) v k is-link
 
   pub peak_here : least_peak_of lower_row upper_row ≡ link_peak (problem_in job sums (length lowers)) v
   unfolding link_peak

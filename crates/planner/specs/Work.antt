@@ -1,5 +1,5 @@
 -- What the memory question's inner functions are handed and give, in terms of the curves and of the theory's plan.
-use Rattle.std.specs.Prelude.{true, List, ◌≡◌, ℕ, suc, ◌+◌, ◌-◌, ◌*◌, ◌≤◌, ◌<◌, length}
+use Rattle.std.specs.Prelude.{true, List, Result, Ok, Err, ◌≡◌, ℕ, suc, ◌+◌, ◌-◌, ◌*◌, ◌≤◌, ◌<◌, length}
 use Rattle.base.specs.Table.{tab, rows_of}
 use Rattle.job.specs.Limits.{most_slots}
 use Rattle.job.specs.Tree.{Tree, leaf, greatest_delay}
@@ -8,14 +8,13 @@ use Rattle.job.specs.declared.Job.{Job}
 use Rattle.smoothing.specs.Row.{lazy}
 use Rattle.smoothing.specs.Plan.{Problem, lower, link_peak, plan}
 use Rattle.curves.specs.Curves.{lower_curve, upper_curve, problem}
-use Rattle.job.specs.Sums.{sums_in, last_in, WithSums}
-use Rattle.planner.specs.Answer.{no_plan}
-use Rattle.planner.specs.declared.Answer.{Answer}
-use Rattle.planner.specs.declared.Answer.TheVariants.{Refused, Planned}
+use Rattle.job.specs.Sums.{sums_in, last_in}
+use Rattle.planner.specs.declared.Planned.{Planned}
+use Rattle.planner.specs.declared.Refusal.{Refusal}
+use Rattle.planner.specs.declared.Refusal.TheVariants.{NoPlan}
 
--- a job's struct with its sums, and two rows of the same width to work in
-pub record Ready (job : Job) (sums lowers kept : List ℕ) : Type 0 where
-  pub given : WithSums job sums
+-- two rows of the same width to work in
+pub record Ready (lowers kept : List ℕ) : Type 0 where
   pub wide : 0 < length lowers
   pub slots_to : length lowers ≤ most_slots
   pub same : length kept ≡ length lowers
@@ -61,11 +60,11 @@ abbrev pub width_of : Job → ℕ
 width_of job = job.frames + greatest_delay (tree_in job) + 1
 
 -- What the work on an accepted job gives: a starving leaf and nothing changed, or the theory's plan with its peaks.
-unfoldable pub Worked : Answer → Job → List ℕ → ℕ → List ℕ → List ℕ → List ℕ → List ℕ → Type 0
-Worked (Refused e) job sums w plan₀ plan₁ peaks₀ peaks₁ =
-    (e ≡ no_plan) × (Starves (tree_in job) (sums_in sums) (last_in sums) w × ((plan₁ ≡ plan₀) × (peaks₁ ≡ peaks₀)))
-Worked (Planned last total) job sums w plan₀ plan₁ peaks₀ peaks₁ =
-    (last ≡ w - 1)
-    × ((total ≡ last_in sums)
+unfoldable pub Worked : Result Planned Refusal → Job → List ℕ → ℕ → List ℕ → List ℕ → List ℕ → List ℕ → Type 0
+Worked (Err e) job sums w plan₀ plan₁ peaks₀ peaks₁ =
+    (e ≡ NoPlan) × (Starves (tree_in job) (sums_in sums) (last_in sums) w × ((plan₁ ≡ plan₀) × (peaks₁ ≡ peaks₀)))
+Worked (Ok planned) job sums w plan₀ plan₁ peaks₀ peaks₁ =
+    (planned.last_slot ≡ w - 1)
+    × ((planned.total ≡ last_in sums)
     × (AllFed (tree_in job) (sums_in sums) (last_in sums) w
     × ((plan₁ ≡ plan_rows_of (problem_in job sums w) w (job.nodes - 1)) × (peaks₁ ≡ peaks_of (problem_in job sums w) (job.nodes - 1)))))

@@ -3,59 +3,77 @@
 #![tactic(auto)]
 
 ghost use Rattle.std.specs.Prelude.{true, false, ◌≡◌, ◌-◌, length};
-ghost use Rattle.job.specs.Limits.{most_slots};
 ghost use Rattle.job.specs.Read.{tree_in, Accepted};
-ghost use Rattle.job.specs.Sums.{WithSums, sums_of, sums_in, last_in};
+ghost use Rattle.job.specs.Sums.{sums_of, sums_in, last_in};
 ghost use Rattle.rows.specs.Row.{lazy_row, least_peak_of};
 ghost use Rattle.rows.specs.Search.{Searchable};
 ghost use Rattle.curves.specs.Rows.{upper_rows};
 ghost use Rattle.planner.specs.Work.{Ready, OutputsFit, Starves, AllFed, problem_in, lazy_rows_of, peaks_of, width_of, Worked};
-ghost use Rattle.planner.specs.Answer.{row_place, row_of, Answers};
+ghost use Rattle.planner.specs.Answer.{number, row_place, row_of, Answers};
+ghost use Rattle.planner.specs.declared.Refusal.TheVariants.{Job as OfJob};
 
-use job::Job;
+use job::{Film, Job};
+use rows::Links;
 
-// The answer of the memory question: a refusal by its number, or H and T(M).
-#[derive(Clone, Copy)]
-pub enum Answer {
-    Refused(u64),
-    Planned(u64, u64),
+// H and T(M) of a plan that is given.
+#[derive(Clone, Copy, Debug, PartialEq, Eq)]
+pub struct Planned {
+    pub last_slot: u64,
+    pub total: u64,
 }
 
-impl Answer {
-    // The number of the refusal where no plan keeps the rules.
-    pub const NO_PLAN: u64 = 12;
+// Why no plan is given: the job or what is lent is refused, or no plan keeps the rules.
+#[derive(Clone, Copy, Debug, PartialEq, Eq)]
+pub enum Refusal {
+    Job(job::Refusal),
+    NoPlan,
+}
+
+impl From<job::Refusal> for Refusal {
+    ghost from_gives = { λ refusal r. r ≡ OfJob refusal };
+
+    fn from(refusal: job::Refusal) -> Refusal {
+        Refusal::Job(refusal)
+    }
+}
+
+// Document 01's number.
+impl From<Refusal> for u64 {
+    ghost from_gives = { λ refusal n. n ≡ number refusal };
+
+    fn from(refusal: Refusal) -> u64 {
+        match refusal {
+            Refusal::Job(refusal) => u64::from(refusal),
+            Refusal::NoPlan => 12,
+        }
+    }
 }
 
 // The search for a starving leaf, which stops at the first leaf and slot found. A leaf below the root never starves; any other leaf's
 // lower curve comes from its parent's, for which the row is room. The most that a leaf may have is D + b here: no leaf has more by its
-// upper curve, and where no leaf needs more, lower is nowhere above upper.
-fn starves(job: Job, sums: &[u64], lowers: &mut [u64]) -> bool
-    requires { WithSums job sums.now }
+// upper curve, and where no leaf needs more, lower is nowhere above upper. Labelled loops left from inside, as document 01 has it.
+fn starves(film: Film, lowers: &mut [u64]) -> bool
     ensures starving { result ≡ true
-        → Starves (tree_in job) (sums_in sums.now) (last_in sums.now) (length lowers.old) }
+        → Starves (tree_in film.entry.job.now) (sums_in film.entry.sums.t.now) (last_in film.entry.sums.t.now) (length lowers.old) }
     ensures fed { result ≡ false
-        → AllFed (tree_in job) (sums_in sums.now) (last_in sums.now) (length lowers.old) }
+        → AllFed (tree_in film.entry.job.now) (sums_in film.entry.sums.t.now) (last_in film.entry.sums.t.now) (length lowers.old) }
 {
-    let mut rest = job.leaves();
+    let leaves = film.job.leaves();
     let mut found = false;
     let mut near = 0;
-    'search: while rest != 0 {
-        let i = base::lowest(rest);
-        rest = base::without_lowest(rest);
-        let u = job.parent[i];
+    'search: for i in base::members(leaves) {
+        let u = film.job.parent[i];
         if u != 0 {
-            curves::keep_row(job, sums, near, u, lowers);
+            curves::keep_row(film, near, u, lowers);
             near = u;
-            let mut k = 0;
-            while k < lowers.len() {
-                let plays = curves::played(sums, job.delay[i], k);
-                let lower = curves::leaf_lower(plays, lowers[k], job.memory[u]);
-                let upper = plays + job.memory[i];
+            for (k, &above) in lowers.iter().enumerate() {
+                let plays = curves::played(film.sums.t, film.job.delay[i], k);
+                let lower = curves::leaf_lower(plays, above, film.job.memory[u]);
+                let upper = plays + film.job.memory[i];
                 if lower > upper {
                     found = true;
                     break 'search;
                 }
-                k += 1;
             }
         }
     }
@@ -75,82 +93,69 @@ fn fill_link(lowers: &[u64], row: &mut [u64]) -> u64
 }
 
 // Every link, one after the other, each in its part of the plan, which comes with all upper rows; the rows before and after it are kept.
-fn fill(
-    job: Job,
-    sums: &[u64],
-    lowers: &mut [u64],
-    kept: &mut [u64],
-    plan: &mut [u64],
-    peaks: &mut [u64],
-)
-    requires { Ready job sums.now lowers.old kept.old
-        × ((plan.old ≡ upper_rows (tree_in job) (sums_in sums.now) (last_in sums.now) (length lowers.old) (job.nodes - 1))
-        × (length peaks.old ≡ job.nodes - 1)) }
+fn fill(film: Film, lowers: &mut [u64], kept: &mut [u64], plan: &mut [u64], peaks: &mut [u64])
+    requires { Ready lowers.old kept.old
+        × ((plan.old ≡ upper_rows (tree_in film.job.now) (sums_in film.sums.t.now) (last_in film.sums.t.now) (length lowers.old)
+        (film.job.now.nodes - 1))
+        × (length peaks.old ≡ film.job.now.nodes - 1)) }
     ensures filled { plan.new
-        ≡ lazy_rows_of (problem_in job sums.now (length lowers.old)) (length lowers.old) (job.nodes - 1) }
+        ≡ lazy_rows_of (problem_in film.entry.job.now film.entry.sums.t.now (length lowers.old)) (length lowers.old)
+        (film.entry.job.now.nodes - 1) }
     ensures peaks { peaks.new
-        ≡ peaks_of (problem_in job sums.now (length lowers.old)) (job.nodes - 1) }
+        ≡ peaks_of (problem_in film.entry.job.now film.entry.sums.t.now (length lowers.old)) (film.entry.job.now.nodes - 1) }
 {
-    let links = job.nodes - 1;
+    let links = film.job.nodes - 1;
     let width = lowers.len();
-    let mut i = 0;
-    let mut start = 0;
     let mut near = 0;
-    while i < links {
+    for i in 0..links {
+        let start = i * width;
         let end = start + width;
-        near = curves::lower_near(job, sums, i + 1, near, kept, lowers);
+        near = curves::lower_near(film, i + 1, near, kept, lowers);
         peaks[i] = fill_link(lowers, &mut plan[start..end]);
-        start = end;
-        i += 1;
     }
 }
 
-// The work on an accepted job, with two rows to work in.
+// The work on an accepted job, with two rows to work in. Plan and peaks are lent by C as two, and a struct of them would have to say in
+// each loop that it keeps the other.
 fn with_rows(
-    job: Job,
-    sums: &[u64],
+    film: Film,
     lowers: &mut [u64],
     kept: &mut [u64],
     plan: &mut [u64],
     peaks: &mut [u64],
-) -> Answer
-    requires { Ready job sums.now lowers.old kept.old × OutputsFit job (length lowers.old) plan.old peaks.old }
-    ensures { Worked result job sums.now (length lowers.old)
+) -> Result<Planned, Refusal>
+    requires { Ready lowers.old kept.old × OutputsFit film.job.now (length lowers.old) plan.old peaks.old }
+    ensures { Worked result film.entry.job.now film.entry.sums.t.now (length lowers.old)
         plan.old plan.new peaks.old peaks.new }
 {
-    if starves(job, sums, lowers) {
-        return Answer::Refused(Answer::NO_PLAN);
+    if starves(film, lowers) {
+        return Err(Refusal::NoPlan);
     }
     let width = lowers.len();
-    let last = (width - 1) as u64;
-    let total = sums[sums.len() - 1];
-    curves::upper_rows(job, sums, plan, width);
-    fill(job, sums, lowers, kept, plan, peaks);
-    let parent = job.parent;
-    let memory = job.memory;
-    rows::close_rows(plan, lowers, &parent, &memory, job.nodes, width);
-    Answer::Planned(last, total)
-}
-
-// A row with room for the most slots.
-fn row_room() -> [u64; Job::MOST_SLOTS]
-    ensures { most_slots ≡ length result }
-{
-    [0u64; Job::MOST_SLOTS]
+    let last_slot = (width - 1) as u64;
+    let total = film.sums.total();
+    curves::upper_rows(film, plan, width);
+    fill(film, lowers, kept, plan, peaks);
+    let links = Links {
+        parent: &film.job.parent,
+        memory: &film.job.memory,
+        nodes: film.job.nodes,
+    };
+    links.close_rows(plan, lowers, width);
+    Ok(Planned { last_slot, total })
 }
 
 // The work on an accepted job, with its sums.
-fn with_sums(job: Job, sums: &[u64], plan: &mut [u64], peaks: &mut [u64]) -> Answer
-    requires { WithSums job sums.now × OutputsFit job (width_of job) plan.old peaks.old }
-    ensures { Worked result job sums.now (width_of job)
+fn with_sums(film: Film, plan: &mut [u64], peaks: &mut [u64]) -> Result<Planned, Refusal>
+    requires { OutputsFit film.job.now (width_of film.job.now) plan.old peaks.old }
+    ensures { Worked result film.entry.job.now film.entry.sums.t.now (width_of film.entry.job.now)
         plan.old plan.new peaks.old peaks.new }
 {
-    let width = job.last_slot() + 1;
-    let mut lowers = row_room();
-    let mut kept = row_room();
+    let width = film.job.last_slot() + 1;
+    let mut lowers = job::room::<{ Job::MOST_SLOTS }>();
+    let mut kept = job::room::<{ Job::MOST_SLOTS }>();
     with_rows(
-        job,
-        sums,
+        film,
         &mut lowers[0..width],
         &mut kept[0..width],
         plan,
@@ -159,74 +164,65 @@ fn with_sums(job: Job, sums: &[u64], plan: &mut [u64], peaks: &mut [u64]) -> Ans
 }
 
 // The work on an accepted job.
-fn with_job(bytes: &[u8], job: Job, plan: &mut [u64], peaks: &mut [u64]) -> Answer
-    requires { Accepted bytes.now job × OutputsFit job (width_of job) plan.old peaks.old }
-    ensures { Worked result job (sums_of bytes.now) (width_of job)
+fn with_job(
+    bytes: &[u8],
+    job: &Job,
+    plan: &mut [u64],
+    peaks: &mut [u64],
+) -> Result<Planned, Refusal>
+    requires { Accepted bytes.now job.now × OutputsFit job.now (width_of job.now) plan.old peaks.old }
+    ensures { Worked result job.now (sums_of bytes.now) (width_of job.now)
         plan.old plan.new peaks.old peaks.new }
 {
-    let mut room = job::long_room();
-    let sums = job::sums(bytes, job, &mut room);
-    with_sums(job, sums, plan, peaks)
+    let mut room = job::room::<{ job::LONG_ROOM }>();
+    let film = Film::read(bytes, job, &mut room);
+    with_sums(film, plan, peaks)
 }
 
 // The memory question.
-pub fn memory_question(bytes: &[u8], plan: &mut [u64], peaks: &mut [u64]) -> Answer
+pub fn memory_question(
+    bytes: &[u8],
+    plan: &mut [u64],
+    peaks: &mut [u64],
+) -> Result<Planned, Refusal>
     ensures { Answers result bytes.now
         plan.old plan.new peaks.old peaks.new }
 {
-    let read = job::read(bytes);
-    if read.refusal != 0 {
-        return Answer::Refused(read.refusal);
+    let job = job::read(bytes)?;
+    if plan.len() != job.plan_length() || peaks.len() != job.nodes - 1 {
+        return Err(Refusal::Job(job::Refusal::BadLent));
     }
-    let job = read.job;
-    if plan.len() != job.plan_length() {
-        return Answer::Refused(Job::BAD_LENT);
-    }
-    if peaks.len() != job.nodes - 1 {
-        return Answer::Refused(Job::BAD_LENT);
-    }
-    with_job(bytes, job, plan, peaks)
+    with_job(bytes, &job, plan, peaks)
 }
 
-// Where a row lies in a plan: its first place, and how many slots it has; 0 twice where there is none.
-#[derive(Clone, Copy)]
+// Where a row lies in a plan: its first place, and how many slots it has.
+#[derive(Clone, Copy, Debug, PartialEq, Eq)]
 pub struct Place {
     pub start: usize,
     pub slots: usize,
 }
 
-// Where the row of link i lies in a plan of so many numbers.
-pub fn row_place(bytes: &[u8], planned: usize, i: usize) -> Place
+// Where the row of link i lies in a plan of so many numbers, if it has a place there.
+pub fn row_place(bytes: &[u8], planned: usize, i: usize) -> Option<Place>
     ensures { result ≡ row_place bytes.now planned i }
 {
-    let none = Place { start: 0, slots: 0 };
-    let read = job::read(bytes);
-    if read.refusal != 0 {
-        return none;
-    }
-    let job = read.job;
-    if i == 0 {
-        return none;
-    }
-    if job.nodes <= i {
-        return none;
-    }
-    if planned != job.plan_length() {
-        return none;
+    let job = job::read(bytes).ok()?;
+    if i == 0 || job.nodes <= i || planned != job.plan_length() {
+        return None;
     }
     let slots = job.last_slot() + 1;
-    Place {
+    Some(Place {
         start: (i - 1) * slots,
         slots,
-    }
+    })
 }
 
-// The row of link i as that part of the plan itself.
+// The row of link i as that part of the plan itself, empty where there is none.
 pub fn row_of<'a, 'b>(bytes: &'b [u8], plan: &'a [u64], i: usize) -> &'a [u64]
     ensures { result.now ≡ row_of bytes.now plan.now i }
 {
-    let place = row_place(bytes, plan.len(), i);
-    let start = place.start;
-    let end = start + place.slots;
-    &plan[start..end]
+    match row_place(bytes, plan.len(), i) {
+        Some(Place { start, slots }) => &plan[start..start + slots],
+        None => &plan[0..0],
+    }
 }

@@ -1,33 +1,32 @@
-use mathlib.Core.List.{List}
-use mathlib.Core.Path.{◌≡◌, refl}
-use Prim.Native.Nat.{ℕ, ◌+◌, ◌-◌, ◌≤◌}
+-- The part of the plan that the code takes is the row, which ends within the plan.
+use mathlib.Core.Path.{◌≡◌, refl, sym}
+use Prim.Native.Nat.{◌+◌, ◌-◌, ◌≤◌}
 use native.Mathlib.Omega.{arith}
-use lib.ListN.{length, take, drop}
-use Rattle.planner.specs.Answer.{row_place, row_of}
-use Rattle.planner.specs.declared.Place.{Place}
+use lib.ListN.{length}
+use Rattle.planner.specs.Answer.{row_of}
 use Rattle.planner.proofs.PlaceLaws.{place_inside}
 use Rattle.planner.proofs.row_of.Goals as goal
-use Rattle.planner.proofs.row_of.Goals.{After-row_place-place}
+use Rattle.planner.proofs.row_of.Goals.{In-Some}
 
--- the part of the plan that the code takes is the row
-row_part : (s plan : List ℕ) (i : ℕ) (p : Place) → p ≡ row_place s (length plan) i → take (p.start + p.slots - p.start) (drop p.start plan) ≡ row_of s plan i
-unfolding row_of
-row_part s plan i p e =
-    let d : p.start + p.slots - p.start ≡ p.slots = omega arith in
-    rw (d, e) refl
+inside : (c : In-Some) → c.in-Some.field-0.start + c.in-Some.field-0.slots ≤ length c.args.plan.now
+inside c = place_inside _ _ _ _ (sym c.in-Some.ensures)
 
--- it ends within the plan
-inside : (c : After-row_place-place) → c.row_place-place.result.start + c.row_place-place.result.slots ≤ length c.args.plan.now
-inside c = rw c.row_place-place.ensures (place_inside _ _ _)
-
-pub overflow_add-end : goal.overflow_add-end
-overflow_add-end c = omega (arith, inside (goal.at.overflow_add-end c).After-row_place-place)
+pub overflow_add-result : goal.overflow_add-result
+overflow_add-result c = omega (arith, inside (goal.at.overflow_add-result c).In-Some)
 
 pub offset_bounds-plan-start : goal.offset_bounds-plan-start
-offset_bounds-plan-start c = omega (arith, inside (goal.at.offset_bounds-plan-start c).After-row_place-place)
+offset_bounds-plan-start c = omega (arith, inside (goal.at.offset_bounds-plan-start c).In-Some)
 
 pub slice_bounds-result-end : goal.slice_bounds-result-end
-slice_bounds-result-end c = omega (arith, inside (goal.at.slice_bounds-result-end c).After-row_place-place)
+slice_bounds-result-end c = omega (arith, inside (goal.at.slice_bounds-result-end c).In-Some)
 
-pub returns : goal.returns
-returns c = row_part _ _ _ _ c.row_place-place.ensures
+pub returns-in-Some : goal.returns-in-Some
+unfolding row_of
+returns-in-Some c =
+    let p = c.in-Some.field-0 in
+    let d : p.start + p.slots - p.start ≡ p.slots = omega arith in
+    rw (← c.in-Some.ensures, d) refl
+
+pub returns-in-None : goal.returns-in-None
+unfolding row_of
+returns-in-None c = rw (← c.in-None.ensures) refl

@@ -1,9 +1,12 @@
 use mathlib.Core.Path.{◌≡◌}
-use mathlib.Core.Bool.{false}
+use mathlib.Core.Bool.{true, false}
 use mathlib.Core.List.{List}
 use Prim.Native.Nat.{ℕ, ◌+◌, ◌-◌, ◌≤◌, ◌<◌}
 use lib.ListN.{length, get_or}
-use Rattle.base.proofs.WalkLaws.{Seen}
+use Rattle.std.specs.List.{All}
+use Rattle.base.specs.Set.{members}
+use Rattle.base.specs.Walk.{walk_left}
+use Rattle.job.specs.Tree.{leaf}
 use Rattle.job.specs.Read.{tree_in}
 use Rattle.job.specs.declared.Job.{Job}
 use Rattle.job.specs.Sums.{sums_in}
@@ -20,16 +23,18 @@ room_of job sums i x = sums_in sums (x - get_or job.delay i 0) + get_or job.memo
 
 abbrev pub invariant-loop-k : goal.invariant-loop-k
 invariant-loop-k l =
-    (l.k ≤ length l.lowers) × ((l.found ≡ false) × ((x : ℕ) → x < l.k → lower_of l.job l.sums l.lowers l.i l.u x ≤ room_of l.job l.sums l.i x))
+    let job = l.film.job.now in
+    let sums = l.film.sums.t.now in
+    (l.found ≡ false) × ((x : ℕ) → x < l.k → lower_of job sums l.above-items l.i l.u x ≤ room_of job sums l.i x)
 
-abbrev pub decreases-loop-k : goal.decreases-loop-k
-decreases-loop-k l = length l.lowers - l.k
-
--- each leaf seen stays within its own room; that it is fed follows only from all of them
+-- each leaf seen stays within its own room, so all do where those left do; that they are fed follows only from all of them
 abbrev pub invariant-search : goal.invariant-search
 invariant-search l =
-    (length l.lowers ≡ length l.initial.lowers)
-    × ((l.found ≡ false) × (Kept (tree_in l.job) (sums_in l.sums) l.near l.lowers × Seen (InRoom (tree_in l.job) (sums_in l.sums) (length l.initial.lowers)) l.initial.rest l.rest))
-
-abbrev pub decreases-search : goal.decreases-search
-decreases-search l = l.rest
+    let P : ℕ → Type 0 = InRoom (tree_in l.film.job.now) (sums_in l.film.sums.t.now) (length l.initial.lowers) in
+    record {
+      row : length l.lowers ≡ length l.initial.lowers;
+      none : l.found ≡ false;
+      near : Kept (tree_in l.film.job.now) (sums_in l.film.sums.t.now) l.near l.lowers;
+      left : All (λ i. leaf (tree_in l.film.job.now) i ≡ true) (walk_left l.i-iterator);
+      seen : All P (walk_left l.i-iterator) → All P (members l.leaves);
+    }

@@ -15,7 +15,10 @@ use Rattle.base.proofs.TableLaws.{get_or-tab, tab_cong}
 use Rattle.job.specs.Limits.{most_nodes}
 use Rattle.job.specs.Tree.{Tree, JobData, TreeWithin, child, leaf, T, H, plan_length}
 use Rattle.job.specs.Bytes.{frame_count, job_of}
+use Rattle.job.specs.Refusal as job
 use Rattle.job.specs.Refusal.{refusal}
+use Rattle.job.specs.declared.Refusal as declared
+use Rattle.job.proofs.RefusalLaws.{number_none}
 use Rattle.job.specs.Read.{tree_in, Accepted}
 use Rattle.job.specs.declared.Job.{Job}
 use Rattle.job.proofs.SlotLaws.{leaf-link}
@@ -29,10 +32,12 @@ use Rattle.planner.specs.Rules.{P1, P2, P3, ColumnKeeps}
 use Rattle.planner.specs.Work.{width_of}
 use Rattle.planner.proofs.AnswerLaws.{width_is}
 use Rattle.running.specs.declared.Running.{Running}
-use Rattle.running.specs.declared.Outcome.{Outcome}
-use Rattle.running.specs.declared.Outcome.TheVariants.{Taken, Done, Refused}
+use Rattle.std.proofs.Common.{Option, Result, Ok, Err, IsErrAnd}
+use Rattle.running.specs.declared.Progress.TheVariants.{Taken}
+use Rattle.running.specs.declared.Refusal.{Refusal}
+use Rattle.running.specs.declared.Refusal.TheVariants.{Job as OfJob, BrokenRule}
 use Rattle.running.specs.Running.{carried_in, column, held_at, Breaks, step_refusal, carried_after, Stepped}
-use Rattle.running.specs.Work.{breaks, held, after, taken, Advanced}
+use Rattle.running.specs.Work.{breaks, held, after, taken, Advanced, Next}
 use Rattle.running.proofs.StepLaws.{breach, no_breach, held_is}
 use Rattle.running.proofs.TestLaws.{after-link}
 
@@ -62,6 +67,19 @@ module _ (s : List ℕ) (p a b : ℕ) where
   pub step-none : refusal s ≡ 0 → p ≡ plan_length (job_of s) → a ≡ (job_of s).tree.n - 1 → b ≡ (job_of s).tree.n - 1 → step_refusal s p a b ≡ 0
   unfolding step_refusal
   step-none h e f g = rw (h, eq-eqb p (plan_length (job_of s)) e, eq-eqb a ((job_of s).tree.n - 1) f, eq-eqb b ((job_of s).tree.n - 1) g) refl
+
+-- what is refused so changes nothing
+module _ (s plan : List ℕ) (x : Running) (sent held : List ℕ) where
+  pub stays-early : (e : declared.Refusal) → job.number e ≡ step_refusal s (length plan) (length sent) (length held)
+      → Stepped (Err (OfJob e)) s plan x x sent sent held held
+  unfolding Stepped
+  stays-early e h = (refl, (refl, (refl, inl (h, (λ z. number_none e (h ∙ z), refl)))))
+
+  -- and so where a `?` passes the job's refusal on
+  pub stays-passed : (r : Result (Option Running) Refusal) (e : declared.Refusal) → IsErrAnd r (λ y. y ≡ OfJob e)
+      → job.number e ≡ step_refusal s (length plan) (length sent) (length held) → Next r s plan x sent sent held held
+  stays-passed (Ok y) e h k = absurd h
+  stays-passed (Err y) e h k = rw h (stays-early e k)
 
 -- ---- columns with the same numbers on the links
 
@@ -146,32 +164,59 @@ module _ (s : List ℕ) (job : Job) (acc : Accepted s job) (plan : List ℕ) (x 
   carried_is =
       ap₂ (λ (n w : ℕ). tab (after n (λ v. rows_in w plan v (suc x.slot)) (family_in x.carried)) most_nodes) nodes_is (width_is s job acc)
 
-  pub stepped : (o : Outcome) (y : Running) (sent₀ sent₁ held₀ held₁ : List ℕ) → step_refusal s (length plan) (length sent₀) (length held₀) ≡ 0 → x.slot < H j
-      → Advanced o job sums plan x y sent₀ sent₁ held₀ held₁ → Stepped o s plan x y sent₀ sent₁ held₀ held₁
-  unfolding Advanced Stepped
-  stepped Taken y sent₀ sent₁ held₀ held₁ early slots (fine, (next, (sent, holds))) =
-      let keeps = no_breach j acc.within.tree (suc x.slot) (carried_in x) now (λ i h.
-      breaks_at_lem (tree_in job) j.tree (sums_in sums) (T j) (last_in sums) (T j j.M) (suc x.slot) (carried_in x) now i false acc.held (sums_of_lem j) (last_of j) (fine i (h.0, omega (arith, h, nodes_is)))) in (
-        early,
-        (
-          slots,
+  module _ (sent₀ sent₁ held₀ held₁ : List ℕ) (early : step_refusal s (length plan) (length sent₀) (length held₀) ≡ 0)
+      (slots : x.slot < H j) where
+    pub stepped : (y : Running) → Advanced (Ok y) job sums plan x sent₀ sent₁ held₀ held₁
+        → Stepped (Ok Taken) s plan x y sent₀ sent₁ held₀ held₁
+    unfolding Advanced Stepped
+    stepped y (fine, (next, (sent, holds))) =
+        let keeps = no_breach j acc.within.tree (suc x.slot) (carried_in x) now (λ i h.
+        breaks_at_lem (tree_in job) j.tree (sums_in sums) (T j) (last_in sums) (T j j.M) (suc x.slot) (carried_in x) now i false acc.held
+        (sums_of_lem j) (last_of j) (fine i (h.0, omega (arith, h, nodes_is)))) in (
+          early,
           (
-            keeps_same j acc.within.tree (suc x.slot) (carried_in x) now _ column_is keeps,
+            slots,
             (
-              next ∙ ap (λ (l : List ℕ). record { slot = suc x.slot; carried = l }) carried_is,
+              keeps_same j acc.within.tree (suc x.slot) (carried_in x) now _ column_is keeps,
               (
-                sent ∙ ap (tab _) count ∙ tab_cong _ _ (j.tree.n - 1) (λ i h. ap (λ (z : ℕ). z - carried_in x (suc i)) (column_is (suc i) (omega arith, omega arith))),
-                holds ∙ ap (tab _) count ∙ tab_cong _ _ (j.tree.n - 1) (λ i h.
-                    held_at_lem (tree_in job) j.tree (sums_in sums) (T j) (suc x.slot) now (suc i) acc.held (sums_of_lem j)
-                    ∙ held_is j acc.within.tree (suc x.slot) (carried_in x) now (suc i) (omega arith, omega arith)
-                    ∙ held_same j acc.within.tree (suc x.slot) (carried_in x) now _ column_is (suc i) (omega arith, omega arith)),
+                next ∙ ap (λ (l : List ℕ). record { slot = suc x.slot; carried = l }) carried_is,
+                (
+                  sent ∙ ap (tab _) count ∙ tab_cong _ _ (j.tree.n - 1)
+                      (λ i h. ap (λ (z : ℕ). z - carried_in x (suc i)) (column_is (suc i) (omega arith, omega arith))),
+                  holds ∙ ap (tab _) count ∙ tab_cong _ _ (j.tree.n - 1) (λ i h.
+                      held_at_lem (tree_in job) j.tree (sums_in sums) (T j) (suc x.slot) now (suc i) acc.held (sums_of_lem j)
+                      ∙ held_is j acc.within.tree (suc x.slot) (carried_in x) now (suc i) (omega arith, omega arith)
+                      ∙ held_same j acc.within.tree (suc x.slot) (carried_in x) now _ column_is (suc i) (omega arith, omega arith)),
+                ),
               ),
             ),
           ),
-        ),
-      )
-  stepped Done y sent₀ sent₁ held₀ held₁ early slots w = absurd w
-  stepped (Refused e l) y sent₀ sent₁ held₀ held₁ early slots (state, (sent, (holds, (fourteen, (linked, found))))) =
-      let broken = breach j acc.within.tree (suc x.slot) (carried_in x) now l (linked.0, omega (arith, linked, nodes_is))
-      (breaks_at_lem (tree_in job) j.tree (sums_in sums) (T j) (last_in sums) (T j j.M) (suc x.slot) (carried_in x) now l true acc.held (sums_of_lem j) (last_of j) found) in
-      (state, (sent, (holds, inr (early, (slots, (fourteen, breaks-same j acc.within.tree (suc x.slot) (carried_in x) now _ column_is l broken))))))
+        )
+
+    pub stays : (e : Refusal) → Advanced (Err e) job sums plan x sent₀ sent₁ held₀ held₁
+        → Stepped (Err e) s plan x x sent₀ sent₁ held₀ held₁
+    unfolding Advanced Stepped
+    stays (OfJob e) h = absurd h
+    stays (BrokenRule l) (sent, (holds, (linked, found))) =
+        let broken = breach j acc.within.tree (suc x.slot) (carried_in x) now l (linked.0, omega (arith, linked, nodes_is))
+        (breaks_at_lem (tree_in job) j.tree (sums_in sums) (T j) (last_in sums) (T j j.M) (suc x.slot) (carried_in x) now l true acc.held
+        (sums_of_lem j) (last_of j) found) in (
+          refl,
+          (
+            sent,
+            (
+              holds,
+              inr (
+                early,
+                (slots, (refl, breaks-same j acc.within.tree (suc x.slot) (carried_in x) now _ column_is l broken)),
+              ),
+            ),
+          ),
+        )
+
+    -- and so where a `?` hands the refusal on
+    pub stays-on : (r : Result (Option Running) Refusal) (e : Refusal) → IsErrAnd r (λ y. y ≡ e)
+        → Advanced (Err e) job sums plan x sent₀ sent₁ held₀ held₁
+        → Next r s plan x sent₀ sent₁ held₀ held₁
+    stays-on (Ok y) e h w = absurd h
+    stays-on (Err y) e h w = rw h (stays e w)

@@ -20,11 +20,12 @@ use Rattle.job.proofs.SumsLaws.{job-film}
 use Rattle.curves.proofs.CurveEq.{D-starts}
 use Rattle.planner.specs.Rules.{P1, P2, P3, ColumnKeeps, Keeps}
 use Rattle.planner.specs.Answer.{plan_in, Answers}
-use Rattle.planner.specs.declared.Answer.TheVariants.{Planned}
+use Rattle.planner.specs.declared.Planned.{Planned}
 use Rattle.running.specs.declared.Running.{Running}
-use Rattle.running.specs.declared.Outcome.{Outcome}
-use Rattle.running.specs.declared.Outcome.TheVariants.{Taken, Done, Refused}
-use Rattle.running.specs.Running.{carried_in, column, held_at, step_refusal, carried_after, Stepped, start, Run, RunsToItsEnd}
+use Rattle.std.proofs.Common.{Ok, Err}
+use Rattle.running.specs.declared.Progress.TheVariants.{Taken, Done}
+use Rattle.running.specs.Running.{Outcome, link_named, carried_in, column, held_at, step_refusal, carried_after, Stepped, start, Run}
+use Rattle.running.specs.Running.{RunsToItsEnd}
 use Rattle.running.proofs.StepLaws.{breach_refutes, held_within}
 use Rattle.running.proofs.AnswerLaws.{step_read}
 
@@ -48,17 +49,18 @@ module _ (s plan : List ℕ) where
 
   module _ (x y : Running) (sent₀ sent₁ held₀ held₁ : List ℕ) where
     -- the column that a step has taken keeps the rules
-    column-keeps : Stepped Taken s plan x y sent₀ sent₁ held₀ held₁ → ColumnKeeps job (suc x.slot) (carried_in x) (column job plan (suc x.slot))
+    column-keeps : Stepped (Ok Taken) s plan x y sent₀ sent₁ held₀ held₁
+        → ColumnKeeps job (suc x.slot) (carried_in x) (column job plan (suc x.slot))
     unfolding Stepped
     column-keeps h = h.1.1.0
 
     -- the slot after it is the next
-    slot_next : Stepped Taken s plan x y sent₀ sent₁ held₀ held₁ → y.slot ≡ suc x.slot
+    slot_next : Stepped (Ok Taken) s plan x y sent₀ sent₁ held₀ held₁ → y.slot ≡ suc x.slot
     unfolding Stepped
     slot_next h = ap (λ (z : Running). z.slot) h.1.1.1.0
 
     -- and that column is carried
-    carried_next : TreeWithin job.tree → Stepped Taken s plan x y sent₀ sent₁ held₀ held₁ → (v : ℕ) → link job.tree.n v ≡ true
+    carried_next : TreeWithin job.tree → Stepped (Ok Taken) s plan x y sent₀ sent₁ held₀ held₁ → (v : ℕ) → link job.tree.n v ≡ true
         → carried_in y v ≡ plan_in job plan v (suc x.slot)
     unfolding Stepped carried_after
     carried_next within h v l =
@@ -66,13 +68,13 @@ module _ (s plan : List ℕ) where
         ∙ get_or-tab (λ u. cond (link job.tree.n u) (plan_in job plan u (suc x.slot)) (get_or x.carried u 0)) most_nodes v (omega (arith, within.nodes_to, (link_in job.tree.n v l).1))
         ∙ rw l
 
-    refusal_next : Stepped Taken s plan x y sent₀ sent₁ held₀ held₁ → step_refusal s (length plan) (length sent₁) (length held₁) ≡ 0
+    refusal_next : Stepped (Ok Taken) s plan x y sent₀ sent₁ held₀ held₁ → step_refusal s (length plan) (length sent₁) (length held₁) ≡ 0
     unfolding Stepped
     refusal_next h =
         rw (h.1.1.1.1.0, h.1.1.1.1.1, length-tab, length-tab) (same-refusal s (length plan) (length sent₀) (length held₀) h.0)
 
     -- what each node holds after it is within its memory
-    held_next : TreeWithin job.tree → Stepped Taken s plan x y sent₀ sent₁ held₀ held₁ → (i : ℕ) → suc i < job.tree.n
+    held_next : TreeWithin job.tree → Stepped (Ok Taken) s plan x y sent₀ sent₁ held₀ held₁ → (i : ℕ) → suc i < job.tree.n
         → get_or held₁ i 0 ≤ job.tree.memory (suc i)
     unfolding Stepped
     held_next within h i l =
@@ -86,22 +88,24 @@ module _ (s plan : List ℕ) where
 
     -- a column that keeps the rules is taken while slots are left
     is_taken : TreeWithin job.tree → step_refusal s (length plan) (length sent₀) (length held₀) ≡ 0 → x.slot < H job
-        → ColumnKeeps job (suc x.slot) (carried_in x) (column job plan (suc x.slot)) → (o : Outcome) → Stepped o s plan x y sent₀ sent₁ held₀ held₁ → o ≡ Taken
+        → ColumnKeeps job (suc x.slot) (carried_in x) (column job plan (suc x.slot)) → (o : Outcome)
+        → Stepped o s plan x y sent₀ sent₁ held₀ held₁ → o ≡ Ok Taken
     unfolding Stepped
-    is_taken within z l keeps Taken h = refl
-    is_taken within z l keeps Done h = absurd (omega (arith, h.1.0))
-    is_taken within z l keeps (Refused e i) h =
+    is_taken within z l keeps (Ok Taken) h = refl
+    is_taken within z l keeps (Ok Done) h = absurd (omega (arith, h.1.0))
+    is_taken within z l keeps (Err e) h =
         absurd (⊎_elim
         (λ r. r.1.0 z)
-        (λ r. breach_refutes job within (suc x.slot) (carried_in x) (column job plan (suc x.slot)) i r.1.1.1 keeps)
+        (λ r. breach_refutes job within (suc x.slot) (carried_in x) (column job plan (suc x.slot)) (link_named e) r.1.1.1 keeps)
         h.1.1.1)
 
     -- and where none is left the step says done
-    is_done : step_refusal s (length plan) (length sent₀) (length held₀) ≡ 0 → H job ≤ x.slot → (o : Outcome) → Stepped o s plan x y sent₀ sent₁ held₀ held₁ → o ≡ Done
+    is_done : step_refusal s (length plan) (length sent₀) (length held₀) ≡ 0 → H job ≤ x.slot → (o : Outcome)
+        → Stepped o s plan x y sent₀ sent₁ held₀ held₁ → o ≡ Ok Done
     unfolding Stepped
-    is_done z l Taken h = absurd (omega (arith, h.1.0))
-    is_done z l Done h = refl
-    is_done z l (Refused e i) h = absurd (⊎_elim (λ r. r.1.0 z) (λ r. omega (arith, r.1.0)) h.1.1.1)
+    is_done z l (Ok Taken) h = absurd (omega (arith, h.1.0))
+    is_done z l (Ok Done) h = refl
+    is_done z l (Err e) h = absurd (⊎_elim (λ r. r.1.0 z) (λ r. omega (arith, r.1.0)) h.1.1.1)
 
   -- ---- runs
 
@@ -127,11 +131,12 @@ module _ (s plan : List ℕ) where
           p3 = λ i c p h. keeps.p3 (suc k) l i c p h;
         })
 
-    taken_at : (k : ℕ) → k < m → k < H job → Ready k → outcome k ≡ Taken
+    taken_at : (k : ℕ) → k < m → k < H job → Ready k → outcome k ≡ Ok Taken
     taken_at k q l r =
         is_taken (state k) (state (suc k)) (sent k) (sent (suc k)) (held k) (held (suc k)) within r.2 (rw r.0 l) (next_keeps k l r) (outcome k) (run.steps k q)
 
-    step_at : (k : ℕ) → k < m → k < H job → Ready k → Stepped Taken s plan (state k) (state (suc k)) (sent k) (sent (suc k)) (held k) (held (suc k))
+    step_at : (k : ℕ) → k < m → k < H job → Ready k
+        → Stepped (Ok Taken) s plan (state k) (state (suc k)) (sent k) (sent (suc k)) (held k) (held (suc k))
     step_at k q l r = rw (taken_at k q l r) at (run.steps k q)
 
     ready : (k : ℕ) → k ≤ m → k ≤ H job → Ready k
@@ -167,7 +172,7 @@ module _ (s plan : List ℕ) where
       at k l = ready within keeps state outcome sent held fits (suc (H job)) run k (omega arith) l
 
   module _ (within : TreeWithin job.tree) (state : ℕ → Running) (outcome : ℕ → Outcome) (sent held : ℕ → List ℕ) (run : Run s plan (H job) state outcome sent held)
-      (taken : (k : ℕ) → k < H job → outcome k ≡ Taken) where
+      (taken : (k : ℕ) → k < H job → outcome k ≡ Ok Taken) where
     -- the plan with zeros as column 0
     abbrev Started : ℕ → ℕ → ℕ
     Started i k = cond (eqb k 0) 0 (plan_in job plan i k)
@@ -175,7 +180,7 @@ module _ (s plan : List ℕ) where
     started_next : (i k : ℕ) → Started i (suc k) ≡ plan_in job plan i (suc k)
     started_next i k = rw (ne_eqb (suc k) 0 (λ q. omega arith))
 
-    step_of : (k : ℕ) → k < H job → Stepped Taken s plan (state k) (state (suc k)) (sent k) (sent (suc k)) (held k) (held (suc k))
+    step_of : (k : ℕ) → k < H job → Stepped (Ok Taken) s plan (state k) (state (suc k)) (sent k) (sent (suc k)) (held k) (held (suc k))
     step_of k l = rw (taken k l) at (run.steps k l)
 
     slot_of : (k : ℕ) → k ≤ H job → (state k).slot ≡ k
@@ -207,7 +212,7 @@ module _ (s plan : List ℕ) where
 
   -- where H steps in a row are taken, the plan's columns 1 to H, with zeros as column 0, keep the rules
   pub taken-keeps : TreeWithin (job_of s).tree → (state : ℕ → Running) (outcome : ℕ → Outcome) (sent held : ℕ → List ℕ) → Run s plan (H (job_of s)) state outcome sent held
-      → ((k : ℕ) → k < H (job_of s) → outcome k ≡ Taken) → Keeps (job_of s) (λ i k. cond (eqb k 0) 0 (plan_in (job_of s) plan i k))
+      → ((k : ℕ) → k < H (job_of s) → outcome k ≡ Ok Taken) → Keeps (job_of s) (λ i k. cond (eqb k 0) 0 (plan_in (job_of s) plan i k))
   taken-keeps within state outcome sent held run taken =
       record {
         starts = λ i h. refl;
@@ -217,9 +222,10 @@ module _ (s plan : List ℕ) where
       }
 
 -- a plan given by the memory question runs to its end: its answer says that the plan keeps the rules
-pub answered-keeps : (last total : ℕ) (s plan₀ plan₁ peaks₀ peaks₁ : List ℕ) → Answers (Planned last total) s plan₀ plan₁ peaks₀ peaks₁ → Keeps (job_of s) (plan_in (job_of s) plan₁)
+pub answered-keeps : (planned : Planned) (s plan₀ plan₁ peaks₀ peaks₁ : List ℕ) → Answers (Ok planned) s plan₀ plan₁ peaks₀ peaks₁
+    → Keeps (job_of s) (plan_in (job_of s) plan₁)
 unfolding Answers
-answered-keeps last total s plan₀ plan₁ peaks₀ peaks₁ h = h.1.1.1.1.0.keeps
+answered-keeps planned s plan₀ plan₁ peaks₀ peaks₁ h = h.1.1.1.1.0.keeps
 
 -- where none of 1 to 11 applies, the job is within the limits
 none_within : (s : List ℕ) (p a b : ℕ) → step_refusal s p a b ≡ 0 → TreeWithin (job_of s).tree
@@ -230,9 +236,9 @@ none_within s p a b z = go (ℕ_discrete (refusal s) 0)
     go (no ne) = absurd (ne (sym (step_read s p a b ne) ∙ z))
 
 -- so a plan given by the memory question runs to its end
-pub answered-runs : (last total : ℕ) (s plan₀ plan₁ peaks₀ peaks₁ : List ℕ) → Answers (Planned last total) s plan₀ plan₁ peaks₀ peaks₁
+pub answered-runs : (planned : Planned) (s plan₀ plan₁ peaks₀ peaks₁ : List ℕ) → Answers (Ok planned) s plan₀ plan₁ peaks₀ peaks₁
     → (state : ℕ → Running) (outcome : ℕ → Outcome) (sent held : ℕ → List ℕ) → step_refusal s (length plan₁) (length (sent 0)) (length (held 0)) ≡ 0
     → Run s plan₁ (suc (H (job_of s))) state outcome sent held → RunsToItsEnd s plan₁ state outcome held
-answered-runs last total s plan₀ plan₁ peaks₀ peaks₁ answer state outcome sent held fits run =
+answered-runs planned s plan₀ plan₁ peaks₀ peaks₁ answer state outcome sent held fits run =
     runs-to_its_end s plan₁ (none_within s (length plan₁) (length (sent 0)) (length (held 0)) fits)
-    (answered-keeps last total s plan₀ plan₁ peaks₀ peaks₁ answer) state outcome sent held fits run
+    (answered-keeps planned s plan₀ plan₁ peaks₀ peaks₁ answer) state outcome sent held fits run

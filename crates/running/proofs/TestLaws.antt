@@ -5,26 +5,19 @@ use mathlib.Core.List.{List}
 use Prim.Native.Nat.{ℕ, ◌+◌, ◌-◌, ◌≤◌, ◌<◌, max}
 use native.Mathlib.Omega.{arith}
 use native.Mathlib.Decide.{ℕ_discrete, dec_lt}
-use borrow.Author.Tests.{lt-ltb, le-ltb, ltb-true}
+use borrow.Author.Tests.{lt-ltb, le-ltb}
 use lib.Dec.{ltb}
 use lib.ListN.{length, get_or, set, length-set}
 use lib.Seq.{get_or-set_same, get_or-set_other, ext_get_or}
 use Rattle.base.specs.Range.{fold, greatest_over}
 use Rattle.base.specs.Set.{has, word_bits}
 use Rattle.base.specs.Table.{tab}
-use Rattle.base.proofs.BoolLaws.{iff_same, otherwise}
+use Rattle.base.proofs.BoolLaws.{otherwise}
 use Rattle.base.proofs.TableLaws.{length-tab, get_or-tab, tab_of_list, tab_cong}
 use Rattle.base.proofs.RangeLaws.{fold_cong, fold_skip}
 use Rattle.job.specs.Tree.{Tree, TreeWithin, link, child}
 use Rattle.job.proofs.TreeLaws.{child_in}
 use Rattle.running.specs.Work.{after}
-
--- a room that is less than a difference
-pub room_less : (x least room : ℕ) → least ≤ x → ltb room (x - least) ≡ ltb (least + room) x
-room_less x least room h =
-    iff_same (ltb room (x - least)) (ltb (least + room) x)
-    (λ e. lt-ltb (least + room) x (omega (arith, ltb-true room (x - least) e)))
-    (λ e. lt-ltb room (x - least) (omega (arith, ltb-true (least + room) x e)))
 
 -- ---- the column of a step, link by link
 

@@ -1,17 +1,20 @@
 -- Document 01, 'The running tree': a value that each slot hands on, and what a step of it gives.
-use Rattle.std.specs.Prelude.{true, cond, ◌&&◌, List, ◌⊎◌, ◌≡◌, ℕ, suc, ◌-◌, ◌≤◌, ◌<◌, eqb, length, get_or}
+use Rattle.std.specs.Prelude.{true, cond, ◌&&◌, List, Result, Ok, Err, ◌⊎◌, ◌≡◌, ℕ, suc, ◌-◌, ◌≤◌, ◌<◌, eqb, length, get_or}
 use Rattle.base.specs.Range.{least_over}
 use Rattle.base.specs.Table.{tab}
 use Rattle.job.specs.Limits.{most_nodes}
 use Rattle.job.specs.Tree.{JobData, link, child, leaf, T, H, plan_length}
 use Rattle.job.specs.Bytes.{job_of}
+use Rattle.job.specs.Refusal as job
 use Rattle.job.specs.Refusal.{bad_lent, refusal}
 use Rattle.curves.specs.Curves.{D}
 use Rattle.planner.specs.Rules.{P1, P2, P3, ColumnKeeps}
 use Rattle.planner.specs.Answer.{plan_in}
 use Rattle.running.specs.declared.Running.{Running}
-use Rattle.running.specs.declared.Outcome.{Outcome}
-use Rattle.running.specs.declared.Outcome.TheVariants.{Taken, Done, Refused}
+use Rattle.running.specs.declared.Progress.{Progress}
+use Rattle.running.specs.declared.Progress.TheVariants.{Taken, Done}
+use Rattle.running.specs.declared.Refusal.{Refusal}
+use Rattle.running.specs.declared.Refusal.TheVariants.{Job, BrokenRule}
 
 -- ---- the numbers of an outcome
 
@@ -23,17 +26,32 @@ broken_rule = 14
 abbrev pub done : ℕ
 done = 100
 
--- document 01's number of each outcome
-abbrev pub number_of : Outcome → ℕ
-number_of Taken = 0
-number_of Done = done
-number_of (Refused e l) = e
+abbrev pub progress_number : Progress → ℕ
+progress_number Taken = 0
+progress_number Done = done
+
+-- document 01's number of each refusal
+abbrev pub number : Refusal → ℕ
+number (Job e) = job.number e
+number (BrokenRule l) = broken_rule
 
 -- the link that 14 names; 0 elsewhere
+abbrev pub link_named : Refusal → ℕ
+link_named (Job e) = 0
+link_named (BrokenRule l) = l
+
+-- what becomes of a step
+abbrev pub Outcome : Type 0
+Outcome = Result Progress Refusal
+
+-- document 01's number of each outcome, and its link
+abbrev pub number_of : Outcome → ℕ
+number_of (Ok progress) = progress_number progress
+number_of (Err e) = number e
+
 abbrev pub link_of : Outcome → ℕ
-link_of Taken = 0
-link_of Done = 0
-link_of (Refused e l) = l
+link_of (Ok progress) = 0
+link_of (Err e) = link_named e
 
 -- ---- one slot
 
@@ -78,7 +96,7 @@ carried_after j now l = tab (λ v. cond (link j.tree.n v) (now v) (get_or l v 0)
 -- Done: none of 1 to 11 applies, no slot is left, and nothing changes.
 -- Refused: nothing changes; the first of 1 to 11 and no link, or 14 with a link on which the next column breaks a rule.
 unfoldable pub Stepped : Outcome → List ℕ → List ℕ → Running → Running → List ℕ → List ℕ → List ℕ → List ℕ → Type 0
-Stepped Taken s plan x y sent₀ sent₁ held₀ held₁ =
+Stepped (Ok Taken) s plan x y sent₀ sent₁ held₀ held₁ =
     let j = job_of s in
     let k = suc x.slot in
     let now = column j plan k in
@@ -87,17 +105,19 @@ Stepped Taken s plan x y sent₀ sent₁ held₀ held₁ =
     × (ColumnKeeps j k (carried_in x) now
     × ((y ≡ record { slot = k; carried = carried_after j now x.carried })
     × ((sent₁ ≡ tab (λ i. now (suc i) - carried_in x (suc i)) (j.tree.n - 1)) × (held₁ ≡ tab (λ i. held_at j k now (suc i)) (j.tree.n - 1))))))
-Stepped Done s plan x y sent₀ sent₁ held₀ held₁ =
+Stepped (Ok Done) s plan x y sent₀ sent₁ held₀ held₁ =
     (step_refusal s (length plan) (length sent₀) (length held₀) ≡ 0)
     × ((H (job_of s) ≤ x.slot) × ((y ≡ x) × ((sent₁ ≡ sent₀) × (held₁ ≡ held₀))))
-Stepped (Refused e l) s plan x y sent₀ sent₁ held₀ held₁ =
+Stepped (Err e) s plan x y sent₀ sent₁ held₀ held₁ =
     let j = job_of s in
     let early = step_refusal s (length plan) (length sent₀) (length held₀) in
     (y ≡ x)
     × ((sent₁ ≡ sent₀)
     × ((held₁ ≡ held₀)
-    × (((e ≡ early) × ((early ≡ 0 → ⊥) × (l ≡ 0)))
-    ⊎ ((early ≡ 0) × ((x.slot < H j) × ((e ≡ broken_rule) × Breaks j (suc x.slot) (carried_in x) (column j plan (suc x.slot)) l))))))
+    × (((number e ≡ early) × ((early ≡ 0 → ⊥) × (link_named e ≡ 0)))
+    ⊎ ((early ≡ 0)
+    × ((x.slot < H j)
+    × ((number e ≡ broken_rule) × Breaks j (suc x.slot) (carried_in x) (column j plan (suc x.slot)) (link_named e)))))))
 
 -- ---- runs
 
@@ -114,7 +134,7 @@ pub record Run (s plan : List ℕ) (m : ℕ) (state : ℕ → Running) (outcome 
 -- a run of H + 1 steps goes to the end of the plan: H steps are taken, and the next says done; it then carries the plan's last column, and at
 -- each step every node holds no more than its memory
 pub record RunsToItsEnd (s plan : List ℕ) (state : ℕ → Running) (outcome : ℕ → Outcome) (held : ℕ → List ℕ) : Type 0 where
-  pub taken : (k : ℕ) → k < H (job_of s) → outcome k ≡ Taken
-  pub done : outcome (H (job_of s)) ≡ Done
+  pub taken : (k : ℕ) → k < H (job_of s) → outcome k ≡ Ok Taken
+  pub done : outcome (H (job_of s)) ≡ Ok Done
   pub last_column : (v : ℕ) → link (job_of s).tree.n v ≡ true → carried_in (state (H (job_of s))) v ≡ plan_in (job_of s) plan v (H (job_of s))
   pub held_within : (k i : ℕ) → k < H (job_of s) → suc i < (job_of s).tree.n → get_or (held (suc k)) i 0 ≤ (job_of s).tree.memory (suc i)

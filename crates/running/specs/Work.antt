@@ -1,5 +1,6 @@
 -- What the step's inner functions test and compute, as truth values and numbers.
-use Rattle.std.specs.Prelude.{Bool, true, false, cond, not, ◌&&◌, ◌||◌, List, ◌≡◌, ℕ, suc, ◌+◌, ◌-◌, ◌*◌, ◌<◌, eqb, ltb, length}
+use Rattle.std.specs.Prelude.{Bool, true, false, cond, not, ◌&&◌, ◌||◌, List, Option, Some, None, Result, Ok, Err, ◌≡◌, ℕ, suc, ◌+◌, ◌-◌}
+use Rattle.std.specs.Prelude.{◌*◌, ◌<◌, eqb, ltb, length}
 use Rattle.base.specs.Range.{greatest_over}
 use Rattle.base.specs.Table.{tab}
 use Rattle.job.specs.Limits.{most_nodes}
@@ -9,10 +10,11 @@ use Rattle.job.specs.declared.Job.{Job}
 use Rattle.smoothing.specs.Lists.{family_in, rows_in}
 use Rattle.job.specs.Sums.{sums_in, last_in}
 use Rattle.planner.specs.Work.{width_of}
-use Rattle.running.specs.Running.{broken_rule}
+use Rattle.running.specs.Running.{Stepped}
 use Rattle.running.specs.declared.Running.{Running}
-use Rattle.running.specs.declared.Outcome.{Outcome}
-use Rattle.running.specs.declared.Outcome.TheVariants.{Taken, Done, Refused}
+use Rattle.running.specs.declared.Progress.TheVariants.{Taken, Done}
+use Rattle.running.specs.declared.Refusal.{Refusal}
+use Rattle.running.specs.declared.Refusal.TheVariants.{Job as OfJob, BrokenRule}
 
 -- x is below `least`, or above that and `room`
 abbrev pub outside : ℕ → ℕ → ℕ → Bool
@@ -42,6 +44,11 @@ held t T k now i = cond (leaf t i) (now i - T (k - t.delay i)) (greatest_over (�
 abbrev pub breaks_at : Job → List ℕ → ℕ → List ℕ → List ℕ → ℕ → Bool
 breaks_at job sums k carried column i = breaks (tree_in job) (sums_in sums) (last_in sums) k (family_in carried) (family_in column) i
 
+-- no link breaks a rule, or this one does
+abbrev pub Breach : Option ℕ → Job → List ℕ → ℕ → List ℕ → List ℕ → Type 0
+Breach None job sums k carried column = (i : ℕ) → (0 < i) × (i < job.nodes) → breaks_at job sums k carried column i ≡ false
+Breach (Some i) job sums k carried column = ((0 < i) × (i < job.nodes)) × (breaks_at job sums k carried column i ≡ true)
+
 abbrev pub held_row : Job → List ℕ → ℕ → List ℕ → List ℕ
 held_row job sums k column = tab (λ i. held (tree_in job) (sums_in sums) k (family_in column) (suc i)) (job.nodes - 1)
 
@@ -68,19 +75,23 @@ pub record Lent (job : Job) (slot : ℕ) (plan sent held : List ℕ) : Type 0 wh
   pub plan_long : length plan ≡ (job.nodes - 1) * width_of job
   pub rows : Rows job sent held
 
--- What the step gives on a job with slots left, from its struct and its sums: no link breaks a rule and the column is taken, or one does and
--- nothing changes.
-unfoldable pub Advanced : Outcome → Job → List ℕ → List ℕ → Running → Running → List ℕ → List ℕ → List ℕ → List ℕ → Type 0
-Advanced Taken job sums plan x y sent₀ sent₁ held₀ held₁ =
+-- What the work on a job with slots left gives, from its struct and its sums: no link breaks a rule and the column is taken, or this one
+-- does and nothing changes.
+unfoldable pub Advanced : Result Running Refusal → Job → List ℕ → List ℕ → Running → List ℕ → List ℕ → List ℕ → List ℕ → Type 0
+Advanced (Ok y) job sums plan x sent₀ sent₁ held₀ held₁ =
     let k = suc x.slot in
     let column = taken job plan x in
     ((i : ℕ) → (0 < i) × (i < job.nodes) → breaks_at job sums k x.carried column i ≡ false)
     × ((y ≡ record { slot = k; carried = column })
     × ((sent₁ ≡ sent_row job x.carried column) × (held₁ ≡ held_row job sums k column)))
-Advanced Done job sums plan x y sent₀ sent₁ held₀ held₁ = ⊥
-Advanced (Refused e l) job sums plan x y sent₀ sent₁ held₀ held₁ =
-    (y ≡ x)
-    × ((sent₁ ≡ sent₀)
+Advanced (Err (OfJob e)) job sums plan x sent₀ sent₁ held₀ held₁ = ⊥
+Advanced (Err (BrokenRule l)) job sums plan x sent₀ sent₁ held₀ held₁ =
+    (sent₁ ≡ sent₀)
     × ((held₁ ≡ held₀)
-    × ((e ≡ broken_rule)
-    × (((0 < l) × (l < job.nodes)) × (breaks_at job sums (suc x.slot) x.carried (taken job plan x) l ≡ true)))))
+    × (((0 < l) × (l < job.nodes)) × (breaks_at job sums (suc x.slot) x.carried (taken job plan x) l ≡ true)))
+
+-- the running tree after the next slot, none where no slot is left, or the refusal of the step: each as the step says it
+abbrev pub Next : Result (Option Running) Refusal → List ℕ → List ℕ → Running → List ℕ → List ℕ → List ℕ → List ℕ → Type 0
+Next (Ok (Some y)) s plan x sent₀ sent₁ held₀ held₁ = Stepped (Ok Taken) s plan x y sent₀ sent₁ held₀ held₁
+Next (Ok None) s plan x sent₀ sent₁ held₀ held₁ = Stepped (Ok Done) s plan x x sent₀ sent₁ held₀ held₁
+Next (Err e) s plan x sent₀ sent₁ held₀ held₁ = Stepped (Err e) s plan x x sent₀ sent₁ held₀ held₁

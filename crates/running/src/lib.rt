@@ -9,15 +9,15 @@ ghost use Rattle.base.specs.Table.{tab};
 ghost use Rattle.job.specs.Limits.{most_nodes, most_slots};
 ghost use Rattle.job.specs.Tree.{TreeWithin};
 ghost use Rattle.job.specs.Read.{Accepted, tree_in};
-ghost use Rattle.job.specs.Sums.{WithSums, HoldsSums, sums_in, sums_of};
+ghost use Rattle.job.specs.Sums.{long_room, sums_in, sums_of};
 ghost use Rattle.smoothing.specs.Lists.{family_in, rows_in};
-ghost use Rattle.running.specs.Running.{Stepped, start};
-ghost use Rattle.running.specs.declared.Outcome.TheVariants.{Refused};
+ghost use Rattle.running.specs.Running.{progress_number, number, Stepped, start};
+ghost use Rattle.running.specs.declared.Refusal.TheVariants.{Job as OfJob};
 ghost use Rattle.running.specs.Work as work;
 
-use job::Job;
+use job::{Film, Job};
 
-// A running tree: the slot number, and what each node has been sent by then.
+// A running tree: the slot number, and what each node has been sent by then; of a fixed size, as C keeps its numbers.
 #[repr(C)]
 #[derive(Clone, Copy)]
 pub struct Running {
@@ -25,118 +25,122 @@ pub struct Running {
     pub carried: [u64; Job::MOST_NODES],
 }
 
-// What became of a step: a refusal has its number, and the link that 14 names.
-#[derive(Clone, Copy)]
-pub enum Outcome {
-    Taken,
-    Done,
-    Refused(u64, u64),
+// How a step went on: the next column is taken, or no slot is left. Document 01 gives done no number; this one is clear of the refusals.
+#[derive(Clone, Copy, Debug, PartialEq, Eq)]
+pub enum Progress {
+    Taken = 0,
+    Done = 100,
 }
 
-impl Outcome {
-    pub const BROKEN_RULE: u64 = 14;
-    // Document 01 gives done no number; this one is clear of the refusals.
-    pub const DONE: u64 = 100;
+impl From<Progress> for u64 {
+    ghost from_gives = { λ progress n. n ≡ progress_number progress };
+
+    fn from(progress: Progress) -> u64 {
+        progress as u64
+    }
 }
 
-// The running tree that a step hands on, with what became of it.
+// Why a step isn't taken: the job or what is lent is refused, or the next column breaks a rule on this link.
+#[derive(Clone, Copy, Debug, PartialEq, Eq)]
+pub enum Refusal {
+    Job(job::Refusal),
+    BrokenRule(usize),
+}
+
+impl From<job::Refusal> for Refusal {
+    ghost from_gives = { λ refusal r. r ≡ OfJob refusal };
+
+    fn from(refusal: job::Refusal) -> Refusal {
+        Refusal::Job(refusal)
+    }
+}
+
+// Document 01's number.
+impl From<Refusal> for u64 {
+    ghost from_gives = { λ refusal n. n ≡ number refusal };
+
+    fn from(refusal: Refusal) -> u64 {
+        match refusal {
+            Refusal::Job(refusal) => u64::from(refusal),
+            Refusal::BrokenRule(_) => 14,
+        }
+    }
+}
+
+// The running tree that a step hands on, with what became of it: document 01 has the same state handed on by a refusal.
 #[derive(Clone, Copy)]
 pub struct Step {
     pub state: Running,
-    pub outcome: Outcome,
+    pub outcome: Result<Progress, Refusal>,
 }
 
 // Whether x is below `least`, or above that and `room`; no sum is made, as the numbers may be any.
 fn outside(x: u64, least: u64, room: u64) -> bool
     ensures { result ≡ work.outside x least room }
 {
-    if x < least {
-        return true;
-    }
-    room < x - least
+    x < least || room < x - least
 }
 
 // Whether a link falls, or passes T(M).
 fn strays(old: u64, new: u64, most: u64) -> bool
     ensures { result ≡ (ltb new old || ltb most new) }
 {
-    if new < old {
-        return true;
-    }
-    most < new
+    new < old || most < new
 }
 
 // Whether the column of slot k breaks P2 at node i, where that is a leaf.
-fn leaf_breaks(job: Job, sums: &[u64], k: usize, column: &[u64; Job::MOST_NODES], i: usize) -> bool
-    requires { TreeWithin (tree_in job) × ((i < job.nodes) × HoldsSums sums.now) }
-    ensures { result ≡ work.breaks_p2 (tree_in job) (sums_in sums.now) k (family_in column.now) i }
+fn leaf_breaks(film: Film, k: usize, column: &[u64; Job::MOST_NODES], i: usize) -> bool
+    requires { i < film.job.now.nodes }
+    ensures { result ≡ work.breaks_p2 (tree_in film.entry.job.now) (sums_in film.entry.sums.t.now) k (family_in column.now) i }
 {
-    if base::member(job.leaves(), i) {
-        return outside(
+    base::member(film.job.leaves(), i)
+        && outside(
             column[i],
-            curves::played(sums, job.delay[i], k),
-            job.memory[i],
-        );
-    }
-    false
+            curves::played(film.sums.t, film.job.delay[i], k),
+            film.job.memory[i],
+        )
 }
 
 // Whether the column breaks P3 between node i and its parent, where that is not the root.
-fn pair_breaks(job: Job, column: &[u64; Job::MOST_NODES], i: usize) -> bool
-    requires { TreeWithin (tree_in job) × ((0 < i) × (i < job.nodes)) }
-    ensures { result ≡ work.breaks_p3 (tree_in job) (family_in column.now) i }
+fn pair_breaks(job: &Job, column: &[u64; Job::MOST_NODES], i: usize) -> bool
+    requires { TreeWithin (tree_in job.now) × ((0 < i) × (i < job.now.nodes)) }
+    ensures { result ≡ work.breaks_p3 (tree_in job.now) (family_in column.now) i }
 {
     let u = job.parent[i];
-    if u == 0 {
-        return false;
-    }
-    outside(column[u], column[i], job.memory[u])
+    u != 0 && outside(column[u], column[i], job.memory[u])
 }
 
 // Whether the column of slot k breaks a rule on the link into node i; P3 counts on the child's link here.
 fn link_breaks(
-    job: Job,
-    sums: &[u64],
+    film: Film,
     k: usize,
     carried: &[u64; Job::MOST_NODES],
     column: &[u64; Job::MOST_NODES],
     i: usize,
 ) -> bool
-    requires { TreeWithin (tree_in job) × (((0 < i) × (i < job.nodes)) × HoldsSums sums.now) }
-    ensures { result ≡ work.breaks_at job sums.now k carried.now column.now i }
+    requires { (0 < i) × (i < film.job.now.nodes) }
+    ensures { result ≡ work.breaks_at film.entry.job.now film.entry.sums.t.now k carried.now column.now i }
 {
-    let last = sums.len() - 1;
-    if strays(carried[i], column[i], sums[last]) {
-        return true;
-    }
-    if leaf_breaks(job, sums, k, column, i) {
-        return true;
-    }
-    pair_breaks(job, column, i)
+    strays(carried[i], column[i], film.sums.total())
+        || leaf_breaks(film, k, column, i)
+        || pair_breaks(film.job, column, i)
 }
 
-// The first link on which the column of slot k breaks a rule; 0 where it breaks none.
+// The first link on which the column of slot k breaks a rule.
 fn first_breach(
-    job: Job,
-    sums: &[u64],
+    film: Film,
     k: usize,
     carried: &[u64; Job::MOST_NODES],
     column: &[u64; Job::MOST_NODES],
-) -> usize
-    requires { TreeWithin (tree_in job) × HoldsSums sums.now }
-    ensures none { result ≡ 0 → (i : ℕ) → (0 < i) × (i < job.nodes)
-        → work.breaks_at job sums.now k carried.now column.now i ≡ false }
-    ensures first { 0 < result → (result < job.nodes)
-        × (work.breaks_at job sums.now k carried.now column.now result ≡ true) }
+) -> Option<usize>
+    ensures { work.Breach result film.entry.job.now film.entry.sums.t.now k carried.now column.now }
 {
-    let mut i = 1;
-    while i < job.nodes {
-        if link_breaks(job, sums, k, carried, column, i) {
-            return i;
+    for i in 1..film.job.nodes {
+        if link_breaks(film, k, carried, column, i) {
+            return Some(i);
         }
-        i += 1;
     }
-    0
+    None
 }
 
 // By how much x is ahead of the member of a set that is furthest behind.
@@ -144,45 +148,41 @@ fn most_ahead(set: u64, x: u64, column: &[u64; Job::MOST_NODES]) -> u64
     ensures { result ≡ fold (λ g c. max g (x - get_or column.now c 0)) 0 (has set) word_bits }
 {
     let mut most: u64 = 0;
-    let mut rest = set;
-    while rest != 0 {
-        most = base::max(most, base::minus(x, column[base::lowest(rest)]));
-        rest = base::without_lowest(rest);
+    for c in base::members(set) {
+        most = most.max(x.saturating_sub(column[c]));
     }
     most
 }
 
 // The held bytes of node i at slot k.
-fn held_at(job: Job, sums: &[u64], k: usize, column: &[u64; Job::MOST_NODES], i: usize) -> u64
-    requires { TreeWithin (tree_in job) × ((i < job.nodes) × HoldsSums sums.now) }
-    ensures { result ≡ work.held (tree_in job) (sums_in sums.now) k (family_in column.now) i }
+fn held_at(film: Film, k: usize, column: &[u64; Job::MOST_NODES], i: usize) -> u64
+    requires { i < film.job.now.nodes }
+    ensures { result ≡ work.held (tree_in film.entry.job.now) (sums_in film.entry.sums.t.now) k (family_in column.now) i }
 {
-    if base::member(job.leaves(), i) {
-        return base::minus(column[i], curves::played(sums, job.delay[i], k));
+    if base::member(film.job.leaves(), i) {
+        column[i].saturating_sub(curves::played(film.sums.t, film.job.delay[i], k))
+    } else {
+        most_ahead(film.job.children(i), column[i], column)
     }
-    most_ahead(job.children(i), column[i], column)
 }
 
-// Each link's bytes in the slot, and each node's held bytes.
+// Each link's bytes in the slot, and each node's held bytes, in the two rows that C lends; by i, as each turn reads several rows there.
 fn report(
-    job: Job,
-    sums: &[u64],
+    film: Film,
     k: usize,
     carried: &[u64; Job::MOST_NODES],
     column: &[u64; Job::MOST_NODES],
     sent: &mut [u64],
     held: &mut [u64],
 )
-    requires { (TreeWithin (tree_in job) × HoldsSums sums.now) × work.Rows job sent.old held.old }
-    ensures sent_after { sent.new ≡ work.sent_row job carried.now column.now }
-    ensures held_after { held.new ≡ work.held_row job sums.now k column.now }
+    requires { work.Rows film.job.now sent.old held.old }
+    ensures sent_after { sent.new ≡ work.sent_row film.entry.job.now carried.now column.now }
+    ensures held_after { held.new ≡ work.held_row film.entry.job.now film.entry.sums.t.now k column.now }
 {
-    let links = job.nodes - 1;
-    let mut i = 0;
-    while i < links {
-        sent[i] = base::minus(column[i + 1], carried[i + 1]);
-        held[i] = held_at(job, sums, k, column, i + 1);
-        i += 1;
+    let links = film.job.nodes - 1;
+    for i in 0..links {
+        sent[i] = column[i + 1].saturating_sub(carried[i + 1]);
+        held[i] = held_at(film, k, column, i + 1);
     }
 }
 
@@ -198,76 +198,77 @@ fn take_column(
     ensures { result ≡ tab (λ v. work.after nodes (λ u. rows_in width plan.now u k) (family_in carried) v) most_nodes }
 {
     let mut column = carried;
-    let mut at = k;
-    let mut i = 1;
-    while i < nodes {
-        column[i] = plan[at];
-        at += width;
-        i += 1;
+    for i in 1..nodes {
+        column[i] = plan[(i - 1) * width + k];
     }
     column
 }
 
-// The step on a job with slots left, from its sums.
+// The next running tree on a job with slots left, from its sums; or the first link on which the column breaks a rule.
 fn advance(
     state: Running,
-    job: Job,
-    sums: &[u64],
+    film: Film,
     plan: &[u64],
     sent: &mut [u64],
     held: &mut [u64],
-) -> Step
-    requires { WithSums job sums.now × work.Lent job state.slot plan.now sent.old held.old }
-    ensures { work.Advanced result.outcome job sums.now plan.now state result.state
+) -> Result<Running, Refusal>
+    requires { work.Lent film.job.now state.slot plan.now sent.old held.old }
+    ensures { work.Advanced result film.entry.job.now film.entry.sums.t.now plan.now state
         sent.old sent.new held.old held.new }
 {
-    let width = job.last_slot() + 1;
+    let width = film.job.last_slot() + 1;
     let k = state.slot as usize + 1;
     let carried = state.carried;
-    let column = take_column(carried, plan, job.nodes, width, k);
-    let i = first_breach(job, sums, k, &carried, &column);
-    if i != 0 {
-        return Step {
-            state,
-            outcome: Outcome::Refused(Outcome::BROKEN_RULE, i as u64),
-        };
+    let column = take_column(carried, plan, film.job.nodes, width, k);
+    if let Some(i) = first_breach(film, k, &carried, &column) {
+        return Err(Refusal::BrokenRule(i));
     }
-    report(job, sums, k, &carried, &column, sent, held);
-    Step {
-        state: Running {
-            slot: k as u64,
-            carried: column,
-        },
-        outcome: Outcome::Taken,
-    }
+    report(film, k, &carried, &column, sent, held);
+    Ok(Running {
+        slot: k as u64,
+        carried: column,
+    })
 }
 
-// The step on an accepted job with slots left: it chooses the room for the film's sums.
+// The same on an accepted job whose film has fewer frames than a room for its sums has places.
+fn with_room<const ROOM: usize>(
+    state: Running,
+    bytes: &[u8],
+    job: &Job,
+    plan: &[u64],
+    sent: &mut [u64],
+    held: &mut [u64],
+) -> Result<Running, Refusal>
+    requires accepted { Accepted bytes.now job.now × work.Lent job.now state.slot plan.now sent.old held.old }
+    requires room { (job.now.frames < ROOM) × (ROOM ≤ long_room) }
+    ensures { work.Advanced result job.now (sums_of bytes.now) plan.now state
+        sent.old sent.new held.old held.new }
+{
+    let mut room = job::room::<ROOM>();
+    let film = Film::read(bytes, job, &mut room);
+    advance(state, film, plan, sent, held)
+}
+
+// The same on an accepted job: it chooses the room for the film's sums.
 fn with_job(
     state: Running,
     bytes: &[u8],
-    job: Job,
+    job: &Job,
     plan: &[u64],
     sent: &mut [u64],
     held: &mut [u64],
-) -> Step
-    requires { Accepted bytes.now job × work.Lent job state.slot plan.now sent.old held.old }
-    ensures { work.Advanced result.outcome job (sums_of bytes.now) plan.now state result.state
+) -> Result<Running, Refusal>
+    requires { Accepted bytes.now job.now × work.Lent job.now state.slot plan.now sent.old held.old }
+    ensures { work.Advanced result job.now (sums_of bytes.now) plan.now state
         sent.old sent.new held.old held.new }
 {
     if job.frames < job::TINY_ROOM {
-        let mut room = job::tiny_room();
-        let sums = job::sums(bytes, job, &mut room);
-        return advance(state, job, sums, plan, sent, held);
+        with_room::<{ job::TINY_ROOM }>(state, bytes, job, plan, sent, held)
+    } else if job.frames < job::MIDDLE_ROOM {
+        with_room::<{ job::MIDDLE_ROOM }>(state, bytes, job, plan, sent, held)
+    } else {
+        with_room::<{ job::LONG_ROOM }>(state, bytes, job, plan, sent, held)
     }
-    if job.frames < job::MIDDLE_ROOM {
-        let mut room = job::middle_room();
-        let sums = job::sums(bytes, job, &mut room);
-        return advance(state, job, sums, plan, sent, held);
-    }
-    let mut room = job::long_room();
-    let sums = job::sums(bytes, job, &mut room);
-    advance(state, job, sums, plan, sent, held)
 }
 
 impl Running {
@@ -286,37 +287,42 @@ impl Running {
         ensures { Stepped result.outcome bytes.now plan.now self result.state
             sent.old sent.new held.old held.new }
     {
-        let read = job::read(bytes);
-        if read.refusal != 0 {
-            return refused(self, read.refusal);
+        match self.next(bytes, plan, sent, held) {
+            Ok(Some(state)) => Step {
+                state,
+                outcome: Ok(Progress::Taken),
+            },
+            Ok(None) => Step {
+                state: self,
+                outcome: Ok(Progress::Done),
+            },
+            Err(refusal) => Step {
+                state: self,
+                outcome: Err(refusal),
+            },
         }
-        let job = read.job;
-        if plan.len() != job.plan_length() {
-            return refused(self, Job::BAD_LENT);
-        }
-        if sent.len() != job.nodes - 1 {
-            return refused(self, Job::BAD_LENT);
-        }
-        if held.len() != job.nodes - 1 {
-            return refused(self, Job::BAD_LENT);
+    }
+
+    // The running tree after the next slot, if one is left.
+    fn next(
+        self,
+        bytes: &[u8],
+        plan: &[u64],
+        sent: &mut [u64],
+        held: &mut [u64],
+    ) -> Result<Option<Running>, Refusal>
+        ensures { work.Next result bytes.now plan.now self
+            sent.old sent.new held.old held.new }
+    {
+        let job = job::read(bytes)?;
+        let links = job.nodes - 1;
+        if plan.len() != job.plan_length() || sent.len() != links || held.len() != links {
+            return Err(Refusal::Job(job::Refusal::BadLent));
         }
         let last = job.last_slot() as u64;
         if last <= self.slot {
-            return Step {
-                state: self,
-                outcome: Outcome::Done,
-            };
+            return Ok(None);
         }
-        with_job(self, bytes, job, plan, sent, held)
-    }
-}
-
-// A refusal that names no link.
-fn refused(state: Running, number: u64) -> Step
-    ensures { result ≡ record { state = state; outcome = Refused number 0 } }
-{
-    Step {
-        state,
-        outcome: Outcome::Refused(number, 0),
+        Ok(Some(with_job(self, bytes, &job, plan, sent, held)?))
     }
 }

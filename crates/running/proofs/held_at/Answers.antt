@@ -7,10 +7,12 @@ use Rattle.running.proofs.held_at.Goals as goal
 
 pub returns-then-member : goal.returns-then-member
 unfolding held
-returns-then-member c = rw (sym (c.leaves.ensures c.args.i) ∙ sym c.member.ensures ∙ c.if-member.true) (c.minus.ensures ∙ rw c.played.ensures refl)
+returns-then-member c = rw (sym (c.leaves.ensures c.args.i) ∙ sym c.member.ensures ∙ c.if-member.true)
+    (c.saturating_sub.ensures ∙ rw c.played.ensures refl)
 
-pub returns : goal.returns
+pub returns-else-member : goal.returns-else-member
 unfolding held
-returns c =
+returns-else-member c =
     rw (sym (c.leaves.ensures c.args.i) ∙ sym c.member.ensures ∙ c.if-member.false)
-    (c.most_ahead.ensures ∙ children_walked _ c.requires.0 c.children.result c.args.i _ (λ u. get_or c.args.column.now u 0) c.children.ensures)
+    (c.most_ahead.ensures
+    ∙ children_walked _ c.args.film.with_sums.tree c.children.result c.args.i _ (λ u. get_or c.args.column.now u 0) c.children.ensures)

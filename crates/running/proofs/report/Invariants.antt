@@ -9,8 +9,6 @@ use Rattle.running.proofs.report.Given as goal
 
 abbrev pub invariant-loop-i : goal.invariant-loop-i
 invariant-loop-i l =
+    let sums = l.film.sums.t.now in
     Filled (λ i. get_or l.column (suc i) 0 - get_or l.carried (suc i) 0) l.i l.initial.sent l.sent
-    × Filled (λ i. work.held (tree_in l.job) (sums_in l.sums) l.k (family_in l.column) (suc i)) l.i l.initial.held l.held
-
-abbrev pub decreases-loop-i : goal.decreases-loop-i
-decreases-loop-i l = l.links - l.i
+    × Filled (λ i. work.held (tree_in l.film.job.now) (sums_in sums) l.k (family_in l.column) (suc i)) l.i l.initial.held l.held

@@ -1,11 +1,12 @@
--- The sums that a pass is handed, and the least delay in time, found frame by frame.
+-- The least delay in time, found frame by frame.
 use mathlib.Core.Bool.{Bool, true, false, not}
-use mathlib.Core.List.{List}
 use mathlib.Core.Path.{◌≡◌, refl}
 use mathlib.Core.Logic.{⊎_elim}
-use Prim.Native.Nat.{ℕ, ◌+◌, ◌-◌, ◌*◌, ◌≤◌, ◌<◌, min}
+use Prim.Native.Nat.{ℕ, suc, ◌+◌, ◌-◌, ◌*◌, ◌≤◌, ◌<◌, min}
 use native.Mathlib.Omega.{arith}
-use native.Mathlib.Nat.{mul_comm, mul-le-mul_left}
+use native.Mathlib.Nat.{mul_comm, mul-suc, mul-le-mul_left}
+use Rattle.std.specs.Int.{div_ceil}
+use Rattle.std.proofs.lemmas.Grind.{div_ceil_times}
 use native.Mathlib.Decide.{dec_lt}
 use lib.Dec.{ltb}
 use borrow.Author.Tests.{le-ltb, ltb-false}
@@ -13,17 +14,8 @@ use Rattle.base.specs.Range.{some}
 use Rattle.base.proofs.BoolLaws.{not_both, otherwise, lt_or_le, last_or_below}
 use Rattle.base.proofs.RangeLaws.{none_passes, all_fail, first_is, first-least, first_passes, first_under}
 use Rattle.job.specs.Limits.{longest_delay}
-use Rattle.job.specs.Sums.{WithSums}
-use Rattle.job.specs.declared.Job.{Job}
-use Rattle.smoothing.specs.Row.{ceil_div}
-use Rattle.smoothing.proofs.RowLaws.{ceil_div_covers, ceil_div-least}
-use Rattle.pacing.specs.Pace.{FilmSums, in_time, delay_at}
+use Rattle.pacing.specs.Pace.{in_time, delay_at}
 use Rattle.pacing.specs.Work.{DelayForSlot, DelayBefore}
-
--- ---- the sums of a job's film
-
-pub film_sums : (job : Job) (sums : List ℕ) → WithSums job sums → FilmSums sums
-film_sums job sums with = record { holds = with.film; frames_to = omega (arith, with.long, with.frames_to) }
 
 -- ---- what it is to be in time
 
@@ -61,46 +53,52 @@ module _ (r M : ℕ) (T : ℕ → ℕ) where
 -- ---- one frame
 
 module _ (T r m w : ℕ) (fits : w ≤ longest_delay + 1) where
-  -- it is in time already
-  pub slot_in_time : T ≤ r * (m + w) → DelayForSlot T r m w w
-  slot_in_time h = record { from = omega arith; to = fits; late = λ l. h; least = λ y a b c. a }
+  -- not in time yet, it is as many slots as T has rates, rounded up, less the m slots since the start
+  module _ (h : r * (m + w) < T) (p : 0 < r) where
+    pub slots_past : m + w < div_ceil T r
+    slots_past =
+        ⊎_elim
+        (λ (l : m + w < div_ceil T r). l)
+        (λ (l : div_ceil T r ≤ m + w). absurd (omega (
+          arith,
+          (div_ceil_times T r p).0,
+          mul-le-mul_left r l,
+          mul_comm (div_ceil T r) r,
+        )))
+        (lt_or_le (m + w) (div_ceil T r))
 
-  -- at rate 0 it never is
-  pub slot_never : r * (m + w) < T → r ≡ 0 → DelayForSlot T r m w (longest_delay + 1)
-  slot_never h z =
-      record {
-        from = fits;
-        to = omega arith;
-        late = λ l. absurd (omega arith);
-        least = λ y a b c. absurd (omega (arith, rw z at c));
-      }
+    no_fewer : (y : ℕ) → T ≤ r * y → div_ceil T r ≤ y
+    no_fewer y c =
+        ⊎_elim
+        (λ (l : y < div_ceil T r). absurd (omega (
+          arith,
+          (div_ceil_times T r p).1,
+          mul-le-mul_left r (fewer y l),
+          mul_comm (div_ceil T r) r,
+          mul-suc r y,
+          c,
+        )))
+        (λ (l : div_ceil T r ≤ y). l)
+        (lt_or_le y (div_ceil T r))
+      where
+        fewer : (a : ℕ) → a < div_ceil T r → suc a ≤ div_ceil T r
+        fewer a l = omega arith
 
-  -- else it is as many slots as T has rates, rounded up, less the m slots since the start
-  pub slots_past : r * (m + w) < T → 0 < r → m + w < ceil_div T r
-  slots_past h p =
-      ⊎_elim
-      (λ (l : m + w < ceil_div T r). l)
-      (λ (l : ceil_div T r ≤ m + w). absurd (omega (arith, ceil_div_covers T r (m + w) p l, mul_comm (m + w) r)))
-      (lt_or_le (m + w) (ceil_div T r))
-
-  pub slot_after : r * (m + w) < T → 0 < r → (slots : ℕ) → slots ≡ ceil_div T r → DelayForSlot T r m w (min (slots - m) (longest_delay + 1))
-  slot_after h p slots e =
-      let past = slots_past h p in
-      record {
-        from = omega arith;
-        to = omega arith;
-        late = λ l.
-            let q : m + min (slots - m) (longest_delay + 1) ≡ ceil_div T r = omega arith in
-            rw q (omega (arith, ceil_div_covers T r (ceil_div T r) p (omega arith), mul_comm (ceil_div T r) r));
-        least = λ y a b c. omega (arith, ceil_div-least T r (m + y) p (omega (arith, c, mul_comm (m + y) r)));
-      }
+    pub slot_after : DelayForSlot T r m w (min (div_ceil T r - m) (longest_delay + 1))
+    slot_after =
+        let past = slots_past in
+        record {
+          from = omega arith;
+          to = omega arith;
+          late = λ l.
+              let q : m + min (div_ceil T r - m) (longest_delay + 1) ≡ div_ceil T r = omega arith in
+              rw q (omega (arith, (div_ceil_times T r p).0, mul_comm (div_ceil T r) r));
+          least = λ y a b c. omega (arith, no_fewer (m + y) c);
+        }
 
 -- ---- frame by frame
 
 module _ (T : ℕ → ℕ) (r : ℕ) where
-  pub delay_before_none : (m w : ℕ) → m ≡ 0 → w ≡ 0 → DelayBefore T r m w
-  delay_before_none m w none least = record { to = omega arith; late = λ l i h. absurd (omega arith); least = λ y a b. omega arith }
-
   pub delay_before_more : (m w x : ℕ) → DelayBefore T r m w → DelayForSlot (T m) r m w x → DelayBefore T r (m + 1) x
   delay_before_more m w x d l =
       record {

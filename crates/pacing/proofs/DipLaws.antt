@@ -1,18 +1,18 @@
 -- Dips left out: why no need is missed. Since the last valley the lead at rate `high` has been above that valley and no higher than a
 -- ceiling. Where it is on the ceiling or above, so has been a lower rate's, and all places since the valley can go.
 use mathlib.Core.List.{List}
-use mathlib.Core.Path.{◌≡◌, refl, ap, sym, ◌∙◌}
-use Prim.Native.Nat.{ℕ, suc, ◌+◌, ◌-◌, ◌*◌, ◌≤◌, ◌<◌, max}
+use mathlib.Core.Path.{◌≡◌, refl, sym, ◌∙◌}
+use Prim.Native.Nat.{ℕ, zero, suc, ◌+◌, ◌-◌, ◌*◌, ◌≤◌, ◌<◌, max}
 use native.Mathlib.Omega.{arith}
 use native.Mathlib.Decide.{dec_lt}
 use lib.ListN.{length, get_or, set}
-use lib.Seq.{get_or-set_other}
 use borrow.Author.Tests.{lt-ltb, le-ltb}
-use Rattle.job.specs.Sums.{sums_in}
-use Rattle.pacing.specs.Work.{ahead_by, most_by, Track, SameUpTo, since_valley_after}
+use Rattle.job.specs.Sums.{sums_in, HoldsSums}
+use Rattle.job.proofs.SumsLaws.{film_of}
+use Rattle.pacing.specs.Work.{ahead_by, most_by, PassOver, SameUpTo, since_valley_after, state_at, left_at}
 use Rattle.pacing.specs.declared.SinceValley.{SinceValley}
 use Rattle.pacing.proofs.PlaceLaws.{straight_to, put_here, put_before, put-ahead, put_most, put-ahead_here, put_most_here}
-use Rattle.pacing.proofs.PlaceLaws.{put-rising, put-inside, left_track, times_split, ahead_next, most_next}
+use Rattle.pacing.proofs.PlaceLaws.{put-rising, put-inside, left_track, times_split, ahead_next, most_next, left-room}
 
 -- ---- numbers: what is played in a step, and taken off by a rate and by the highest one, which takes `more` than it
 
@@ -47,8 +47,6 @@ pub record SinceValleyAt (T : ℕ → ℕ) (high : ℕ) (old places : List ℕ) 
   pub rising : (u : ℕ) → u < t.last → get_or places u 0 < get_or places (suc u) 0
   pub inside : (u : ℕ) → u ≤ t.last → get_or places u 0 ≤ get_or old j 0
   pub is_lead : lead ≡ ahead_by T old high j
-  pub based : t.base ≤ lead
-  pub topped : lead ≤ t.ceiling
   pub same : (r : ℕ) → r ≤ high → ahead_by T places r t.last ≡ ahead_by T old r j
   pub most : (r : ℕ) → r ≤ high → most_by T places r t.last ≡ most_by T old r j
   pub kept : (r : ℕ) → r ≤ high → most_by T places r t.valley ≤ most_by T places r t.last
@@ -71,8 +69,6 @@ since_valley_start T high old z =
       rising = λ u h. absurd (omega arith);
       inside = λ u h. let e : u ≡ 0 = omega arith in rw e (omega arith);
       is_lead = refl;
-      based = omega arith;
-      topped = omega arith;
       same = λ r h. refl;
       most = λ r h. refl;
       kept = λ r h. omega arith;
@@ -172,8 +168,6 @@ module _ (T : ℕ → ℕ) (grows : (m k : ℕ) → m ≤ k → T m ≤ T k) (hi
         rising = put-rising T places t.last to fits at up (omega (arith, so.ends)) so.rising;
         inside = put-inside T places t.last to fits at up so.inside;
         is_lead = refl;
-        based = omega arith;
-        topped = omega arith;
         same = after_same;
         most = after_most;
         kept = λ r h. omega arith;
@@ -200,8 +194,6 @@ module _ (T : ℕ → ℕ) (grows : (m k : ℕ) → m ≤ k → T m ≤ T k) (hi
         rising = put-rising T places t.last to fits at up (omega (arith, so.ends)) so.rising;
         inside = put-inside T places t.last to fits at up so.inside;
         is_lead = refl;
-        based = omega arith;
-        topped = omega arith;
         same = after_same;
         most = after_most;
         kept = λ r h. omega (arith, most-valley r, after_most r h, most_next T r old j, so.kept r h, so.most r h);
@@ -234,8 +226,6 @@ module _ (T : ℕ → ℕ) (grows : (m k : ℕ) → m ≤ k → T m ≤ T k) (hi
         rising = put-rising T places t.valley to short at up valley_before (λ u q. so.rising u (omega (arith, so.order)));
         inside = put-inside T places t.valley to short at up (λ u q. so.inside u (omega (arith, so.order)));
         is_lead = refl;
-        based = omega arith;
-        topped = omega arith;
         same = λ r h. put-ahead_here T places t.valley to short r ∙ straight_next over r h;
         most = λ r h.
             last r
@@ -268,34 +258,37 @@ module _ (T : ℕ → ℕ) (grows : (m k : ℕ) → m ≤ k → T m ≤ T k) (hi
           rw (how, lt-ltb t.base new_lead over, le-ltb new_lead t.ceiling (omega arith), one t.valley)
           (high_next over (omega arith))
 
--- a turn of the pass over the old places, in whose room those that are left are put
-module _ (T : ℕ → ℕ) (grows : (m k : ℕ) → m ≤ k → T m ≤ T k) (high M : ℕ) (old places : List ℕ) (count j : ℕ) (t : SinceValley)
-    (lead to lead' : ℕ) (t' : SinceValley)
-    (was : Track M old count) (some : 0 < j) (more : j < count) (next : to ≡ get_or old j 0) (room : j < length places)
-    (rest : (u : ℕ) → j ≤ u → get_or places u 0 ≡ get_or old u 0) (so : SinceValleyAt T high old places (j - 1) t lead)
-    (is : lead' ≡ ahead_by T old high j) (how : t' ≡ since_valley_after t lead') where
-  this : suc (j - 1) ≡ j
-  this = omega arith
+-- ---- the pass
 
-  lead_is : lead' ≡ ahead_by T old high (suc (j - 1))
-  lead_is = is ∙ ap (ahead_by T old high) (sym this)
+module _ (sums : List ℕ) (holds : HoldsSums sums) (old : List ℕ) (high : ℕ) (pre : PassOver sums high old) where
+  abbrev pub last_place : ℕ
+  last_place = length old - 1
 
-  pub since_valley_on : SinceValleyAt T high old (set places t'.last to) j t' lead'
-  since_valley_on =
-      let on = since_valley_next T grows high old places (j - 1) t lead so (was.rising (j - 1) (omega arith)) (omega arith) t'
-      (rw lead_is at how) in
-      rw (next, lead_is, this) (rw this at on)
+  abbrev pub start : SinceValley
+  start = record { last = 0; valley = 0; base = 0; ceiling = 0 }
 
-  pub since_valley_rest : (u : ℕ) → j + 1 ≤ u → get_or (set places t'.last to) u 0 ≡ get_or old u 0
-  since_valley_rest u h = get_or-set_other places t'.last u to 0 (λ e. omega (arith, since_valley_on.few)) ∙ rest u (omega arith)
+  abbrev pub valleys : ℕ → SinceValley
+  valleys = state_at since_valley_after (sums_in sums) high old start
 
--- all places gone through
-pub since_valley_all : (sums : List ℕ) (high : ℕ) (old places : List ℕ) (count : ℕ) (t : SinceValley) (lead : ℕ)
-    → Track (length sums - 1) old count → SinceValleyAt (sums_in sums) high old places (count - 1) t lead
-    → SameUpTo sums high old count places (t.last + 1)
-since_valley_all sums high old places count t lead was so =
-    let back : t.last + 1 - 1 ≡ t.last = omega arith in
-    record {
-      track = left_track _ old places count t.last was so.starts so.few so.inside so.rising;
-      same = λ r h. rw back (so.most r h);
-    }
+  abbrev pub without_dips : ℕ → List ℕ
+  without_dips = left_at since_valley_after (λ t. t.last) (sums_in sums) high old start
+
+  walk : (j : ℕ) → j < length old
+      → SinceValleyAt (sums_in sums) high old (without_dips j) j (valleys j) (ahead_by (sums_in sums) old high j)
+  unfolding state_at left_at ahead_by
+  walk zero h = since_valley_start (sums_in sums) high old pre.track.starts
+  walk (suc j) h =
+      since_valley_next (sums_in sums) (film_of sums holds).grows high old (without_dips j) j (valleys j)
+      (ahead_by (sums_in sums) old high j) (walk j (omega arith)) (pre.track.rising j h)
+      (left-room since_valley_after (λ t. t.last) (sums_in sums) start high old j h) (valleys (suc j)) refl
+
+  pub dips_left : SameUpTo sums high old (without_dips last_place) ((valleys last_place).last + 1)
+  dips_left =
+      let t = valleys last_place in
+      let so = walk last_place (omega (arith, pre.track.some_place)) in
+      let back : t.last + 1 - 1 ≡ t.last = omega arith in
+      record {
+        fewer = omega (arith, so.few, pre.track.some_place);
+        track = left_track _ old (without_dips last_place) (length old) t.last pre.track so.starts so.few so.inside so.rising;
+        same = λ r h. rw back (so.most r h);
+      }

@@ -1,21 +1,23 @@
 -- Low peaks left out: why no need is missed. Since the last peak the lead at rate `low` has been between a floor and a bar. Where it is
 -- on the floor again, a higher rate has been on it too, and all places since the peak can go.
+use mathlib.Core.Bool.{Bool, true, false, cond}
 use mathlib.Core.List.{List}
 use mathlib.Core.Logic.{◌⊎◌, inl, inr}
-use mathlib.Core.Path.{◌≡◌, refl, ap, sym, ◌∙◌}
-use Prim.Native.Nat.{ℕ, suc, ◌+◌, ◌-◌, ◌*◌, ◌≤◌, ◌<◌, max, min}
+use mathlib.Core.Path.{◌≡◌, refl, sym, ◌∙◌}
+use Prim.Native.Nat.{ℕ, zero, suc, ◌+◌, ◌-◌, ◌*◌, ◌≤◌, ◌<◌, max, min}
 use native.Mathlib.Omega.{arith}
 use native.Mathlib.Nat.{mul-le-mul}
 use native.Mathlib.Decide.{ℕ_discrete, dec_lt}
+use lib.Dec.{ltb}
 use lib.ListN.{length, get_or, set}
-use lib.Seq.{get_or-set_other}
 use borrow.Author.Tests.{lt-ltb, le-ltb}
-use Rattle.job.specs.Sums.{sums_in}
-use Rattle.pacing.specs.Work.{ahead_by, most_by, Track, SameFrom, since_peak_after}
+use Rattle.job.specs.Sums.{sums_in, HoldsSums}
+use Rattle.job.proofs.SumsLaws.{film_of}
+use Rattle.pacing.specs.Work.{ahead_by, most_by, PassOver, SameFrom, since_peak_after, state_at, left_at}
 use Rattle.pacing.specs.declared.SincePeak.{SincePeak}
 use Rattle.pacing.proofs.PlaceLaws.{left_track, times_split, straight_to, put_here, put_before, put-ahead, put_most}
 use Rattle.pacing.proofs.PlaceLaws.{put-ahead_here, put_most_here, put-rising, put-inside, times_higher, most_over, ahead_next}
-use Rattle.pacing.proofs.PlaceLaws.{ahead_higher}
+use Rattle.pacing.proofs.PlaceLaws.{ahead_higher, left-room}
 
 -- ---- numbers
 
@@ -154,7 +156,7 @@ module _ (full lead d slack peak top played taken less gap : ℕ) (lower : full 
 -- ---- places
 
 -- after place j of the old ones, where so many are left
-pub record SincePeakAt (T : ℕ → ℕ) (low frame : ℕ) (old places : List ℕ) (j : ℕ) (t : SincePeak) (lead : ℕ) : Type 0 where
+pub record SincePeakAt (T : ℕ → ℕ) (low : ℕ) (old places : List ℕ) (j : ℕ) (t : SincePeak) (lead : ℕ) : Type 0 where
   pub starts : get_or places 0 0 ≡ 0
   pub ends : get_or places t.last 0 ≡ get_or old j 0
   pub few : t.last ≤ j
@@ -163,18 +165,17 @@ pub record SincePeakAt (T : ℕ → ℕ) (low frame : ℕ) (old places : List �
   pub inside : (u : ℕ) → u ≤ t.last → get_or places u 0 ≤ get_or old j 0
   pub is_lead : lead ≡ ahead_by T old low j
   pub floored : t.floor ≤ lead
-  pub barred : lead ≤ t.bar
-  pub slack : t.bar ≤ t.floor + (frame - low)
-  pub top : t.bar ≤ max (frame - low) (ahead_by T places low t.peak)
+  pub slack : t.bar ≤ t.floor + t.slack
+  pub top : t.bar ≤ max t.slack (ahead_by T places low t.peak)
   pub same : (r : ℕ) → low ≤ r → ahead_by T places r t.last ≡ ahead_by T old r j
   pub rates : (r : ℕ) → low ≤ r
-      → AtRate (frame - r) (r - low) (most_by T places r t.peak) (most_by T places r t.last)
+      → AtRate (t.slack - (r - low)) (r - low) (most_by T places r t.peak) (most_by T places r t.last)
       (straight_to T places r t.peak (get_or old j 0)) (ahead_by T old r j) (most_by T old r j) lead t.floor
 
-pub since_peak-start : (T : ℕ → ℕ) (low frame : ℕ) (old : List ℕ) → get_or old 0 0 ≡ 0
-    → SincePeakAt T low frame old old 0 (record { last = 0; peak = 0; floor = 0; bar = frame - low }) 0
+pub since_peak-start : (T : ℕ → ℕ) (low slack : ℕ) (old : List ℕ) → get_or old 0 0 ≡ 0
+    → SincePeakAt T low old old 0 (record { last = 0; peak = 0; floor = 0; bar = slack; slack = slack }) 0
 unfolding ahead_by most_by
-since_peak-start T low frame old z =
+since_peak-start T low slack old z =
     record {
       starts = z;
       ends = refl;
@@ -184,7 +185,6 @@ since_peak-start T low frame old z =
       inside = λ u h. let e : u ≡ 0 = omega arith in rw e (omega arith);
       is_lead = refl;
       floored = omega arith;
-      barred = omega arith;
       slack = omega arith;
       top = omega arith;
       same = λ r h. refl;
@@ -198,8 +198,8 @@ since_peak-start T low frame old z =
       };
     }
 
-module _ (T : ℕ → ℕ) (grows : (m k : ℕ) → m ≤ k → T m ≤ T k) (low frame : ℕ) (old places : List ℕ) (j : ℕ) (t : SincePeak) (lead : ℕ)
-    (so : SincePeakAt T low frame old places j t lead) (climbs : (u : ℕ) → u < suc j → get_or old u 0 < get_or old (suc u) 0)
+module _ (T : ℕ → ℕ) (grows : (m k : ℕ) → m ≤ k → T m ≤ T k) (low : ℕ) (old places : List ℕ) (j : ℕ) (t : SincePeak) (lead : ℕ)
+    (so : SincePeakAt T low old places j t lead) (climbs : (u : ℕ) → u < suc j → get_or old u 0 < get_or old (suc u) 0)
     (room : suc j < length places) where
   abbrev at : ℕ
   at = get_or old j 0
@@ -232,9 +232,6 @@ module _ (T : ℕ → ℕ) (grows : (m k : ℕ) → m ≤ k → T m ≤ T k) (lo
       + (T to - T at) = omega arith in
       rw (e, d, x) refl
 
-  higher : (r : ℕ) → low ≤ r → frame - r ≡ frame - low - (r - low)
-  higher r h = omega arith
-
   -- ---- with all places
 
   full_on : (r : ℕ) → ahead_by T old r (suc j) ≡ ahead_by T old r j + (T to - T at) - r * (to - at)
@@ -259,15 +256,15 @@ module _ (T : ℕ → ℕ) (grows : (m k : ℕ) → m ≤ k → T m ≤ T k) (lo
 
   -- under the bar nothing is missed
   small : (r floor : ℕ) → low ≤ r → floor ≤ t.floor → ahead_by T old low (suc j) ≤ t.bar
-      → ahead_by T old low (suc j) ≤ floor + (frame - low)
-      → ahead_by T old r (suc j) ≤ max (most_by T places r t.peak) (frame - r)
+      → ahead_by T old low (suc j) ≤ floor + t.slack
+      → ahead_by T old r (suc j) ≤ max (most_by T places r t.peak) (t.slack - (r - low))
   small r floor h l barred slack =
       let full = ahead_by T old r (suc j) in
-      let first = under_bar full (ahead_by T old low (suc j)) (r - low) (frame - low) (ahead_by T places r t.peak)
+      let first = under_bar full (ahead_by T old low (suc j)) (r - low) t.slack (ahead_by T places r t.peak)
       (ahead_by T places low t.peak) (T to - T from) (r * (to - from)) (low * (to - from)) (ahead_by T old low (suc j) - floor)
       (ahead_higher T low r old (suc j) h climbs) (straight_near r floor h l) (omega (arith, slack))
       (straight_under low (omega arith)) (mul-le-mul h (omega arith)) (omega (arith, barred, so.top)) in
-      max_both full _ _ _ _ first (most_over T r places t.peak) (omega (arith, higher r h))
+      max_both full _ _ _ _ first (most_over T r places t.peak) (omega arith)
 
   -- ---- a place after the last
 
@@ -291,8 +288,8 @@ module _ (T : ℕ → ℕ) (grows : (m k : ℕ) → m ≤ k → T m ≤ T k) (lo
       let none : r * (to - to) ≡ 0 = let z : to - to ≡ 0 = omega arith in rw z (omega arith) in
       rw here (omega (arith, none, after_same r l, full_on r))
 
-  peak_next : SincePeakAt T low frame old (set places (suc t.last) to) (suc j)
-      (record { last = suc t.last; peak = suc t.last; floor = ahead_by T old low (suc j); bar = ahead_by T old low (suc j) })
+  peak_next : SincePeakAt T low old (set places (suc t.last) to) (suc j)
+      (record { last = suc t.last; peak = suc t.last; floor = ahead_by T old low (suc j); bar = ahead_by T old low (suc j); slack = t.slack })
       (ahead_by T old low (suc j))
   peak_next =
       record {
@@ -304,7 +301,6 @@ module _ (T : ℕ → ℕ) (grows : (m k : ℕ) → m ≤ k → T m ≤ T k) (lo
         inside = put-inside T places t.last to fits at up so.inside;
         is_lead = refl;
         floored = omega arith;
-        barred = omega arith;
         slack = omega arith;
         top = omega (arith, after_same low (omega arith));
         same = after_same;
@@ -315,8 +311,8 @@ module _ (T : ℕ → ℕ) (grows : (m k : ℕ) → m ≤ k → T m ≤ T k) (lo
       }
 
   between_next : ahead_by T old low (suc j) ≤ t.bar → t.floor ≤ ahead_by T old low (suc j)
-      → SincePeakAt T low frame old (set places (suc t.last) to) (suc j)
-      (record { last = suc t.last; peak = t.peak; floor = t.floor; bar = min t.bar (t.floor + (frame - low)) })
+      → SincePeakAt T low old (set places (suc t.last) to) (suc j)
+      (record { last = suc t.last; peak = t.peak; floor = t.floor; bar = min t.bar (t.floor + t.slack); slack = t.slack })
       (ahead_by T old low (suc j))
   between_next barred floored =
       let ahead-peak : (r : ℕ) → ahead_by T (set places (suc t.last) to) r t.peak ≡ ahead_by T places r t.peak =
@@ -334,7 +330,6 @@ module _ (T : ℕ → ℕ) (grows : (m k : ℕ) → m ≤ k → T m ≤ T k) (lo
         inside = put-inside T places t.last to fits at up so.inside;
         is_lead = refl;
         floored = floored;
-        barred = omega (arith, barred, so.slack);
         slack = omega arith;
         top = rw (ahead-peak low) (omega (arith, so.top));
         same = after_same;
@@ -348,13 +343,13 @@ module _ (T : ℕ → ℕ) (grows : (m k : ℕ) → m ≤ k → T m ≤ T k) (lo
   -- ---- a place after the peak
 
   low_next : ahead_by T old low (suc j) ≤ t.bar → ahead_by T old low (suc j) ≤ t.floor
-      → SincePeakAt T low frame old (set places (suc t.peak) to) (suc j)
+      → SincePeakAt T low old (set places (suc t.peak) to) (suc j)
       (record {
         last = suc t.peak;
         peak = t.peak;
         floor = ahead_by T old low (suc j);
-        bar = min t.bar
-            (ahead_by T old low (suc j) + (frame - low));
+        bar = min t.bar (ahead_by T old low (suc j) + t.slack);
+        slack = t.slack;
       }) (ahead_by T old low (suc j))
   low_next barred floored =
       let short : suc t.peak < length places = omega (arith, so.order, so.few) in
@@ -381,7 +376,6 @@ module _ (T : ℕ → ℕ) (grows : (m k : ℕ) → m ≤ k → T m ≤ T k) (lo
         inside = put-inside T places t.peak to short at up (λ u q. so.inside u (omega (arith, so.order)));
         is_lead = refl;
         floored = omega arith;
-        barred = omega (arith, barred);
         slack = omega arith;
         top = rw (ahead-peak low) (omega (arith, so.top));
         same = λ r l. put-ahead_here T places t.peak to short r ∙ again-at r l ∙ sym (full_on r);
@@ -395,15 +389,15 @@ module _ (T : ℕ → ℕ) (grows : (m k : ℕ) → m ≤ k → T m ≤ T k) (lo
   abbrev new_lead : ℕ
   new_lead = ahead_by T old low (suc j)
 
-  since_peak_next : (t' : SincePeak) → t' ≡ since_peak_after t (ahead_by T old low (suc j)) (frame - low)
-      → SincePeakAt T low frame old (set places t'.last to) (suc j) t' (ahead_by T old low (suc j))
+  since_peak_next : (t' : SincePeak) → t' ≡ since_peak_after t (ahead_by T old low (suc j))
+      → SincePeakAt T low old (set places t'.last to) (suc j) t' (ahead_by T old low (suc j))
   unfolding since_peak_after
   since_peak_next t' how = go (dec_lt t.bar new_lead) (dec_lt t.floor new_lead)
     where
       one : (n : ℕ) → n + 1 ≡ suc n
       one n = omega arith
 
-      go : Dec (t.bar < new_lead) → Dec (t.floor < new_lead) → SincePeakAt T low frame old (set places t'.last to) (suc j) t' new_lead
+      go : Dec (t.bar < new_lead) → Dec (t.floor < new_lead) → SincePeakAt T low old (set places t'.last to) (suc j) t' new_lead
       go (yes above) _ = rw (how, lt-ltb t.bar new_lead above, one t.last) peak_next
       go (no ne) (yes over) =
           rw (how, le-ltb t.bar new_lead (omega arith), lt-ltb t.floor new_lead over, one t.last)
@@ -412,37 +406,62 @@ module _ (T : ℕ → ℕ) (grows : (m k : ℕ) → m ≤ k → T m ≤ T k) (lo
           rw (how, le-ltb t.bar new_lead (omega arith), le-ltb t.floor new_lead (omega arith), one t.peak)
           (low_next (omega arith) (omega arith))
 
--- a turn of the pass over the old places, in whose room those that are left are put
-module _ (T : ℕ → ℕ) (grows : (m k : ℕ) → m ≤ k → T m ≤ T k) (low frame M : ℕ) (old places : List ℕ) (count j : ℕ) (t : SincePeak)
-    (lead to lead' : ℕ) (t' : SincePeak)
-    (was : Track M old count) (some : 0 < j) (more : j < count) (next : to ≡ get_or old j 0) (room : j < length places)
-    (rest : (u : ℕ) → j ≤ u → get_or places u 0 ≡ get_or old u 0) (so : SincePeakAt T low frame old places (j - 1) t lead)
-    (is : lead' ≡ ahead_by T old low j) (how : t' ≡ since_peak_after t lead' (frame - low)) where
-  this : suc (j - 1) ≡ j
-  this = omega arith
-
-  lead_is : lead' ≡ ahead_by T old low (suc (j - 1))
-  lead_is = is ∙ ap (ahead_by T old low) (sym this)
-
-  pub since_peak_on : SincePeakAt T low frame old (set places t'.last to) j t' lead'
-  since_peak_on =
-      let on = since_peak_next T grows low frame old places (j - 1) t lead so (λ u h. was.rising u (omega arith)) (omega arith) t'
-      (rw lead_is at how) in
-      rw (next, lead_is, this) (rw this at on)
-
-  pub since_peak_rest : (u : ℕ) → j + 1 ≤ u → get_or (set places t'.last to) u 0 ≡ get_or old u 0
-  since_peak_rest u h = get_or-set_other places t'.last u to 0 (λ e. omega (arith, since_peak_on.few)) ∙ rest u (omega arith)
-
--- all places gone through
-pub since_peak_all : (sums : List ℕ) (low frame : ℕ) (old places : List ℕ) (count : ℕ) (t : SincePeak) (lead : ℕ)
-    → Track (length sums - 1) old count → SincePeakAt (sums_in sums) low frame old places (count - 1) t lead
-    → SameFrom sums low frame old count places (t.last + 1)
-since_peak_all sums low frame old places count t lead was so =
-    let back : t.last + 1 - 1 ≡ t.last = omega arith in
-    record {
-      track = left_track _ old places count t.last was so.starts so.few so.inside so.rising;
-      same = λ r h. let at = so.rates r h in rw back (same_most _ _ _ at.over at.under);
-    }
+after-slack : (t : SincePeak) (lead : ℕ) → (since_peak_after t lead).slack ≡ t.slack
+unfolding since_peak_after
+after-slack t lead = go (ltb t.bar lead) (ltb t.floor lead)
   where
-    same_most : (x y z : ℕ) → x ≤ max y z → y ≤ max x z → max x z ≡ max y z
-    same_most x y z h l = omega arith
+    go : (b c : Bool)
+        → (cond {A = SincePeak} b
+        (record { last = t.last + 1; peak = t.last + 1; floor = lead; bar = lead; slack = t.slack })
+        (cond c
+        (record { last = t.last + 1; peak = t.peak; floor = t.floor; bar = min t.bar (t.floor + t.slack); slack = t.slack })
+        (record { last = t.peak + 1; peak = t.peak; floor = lead; bar = min t.bar (lead + t.slack); slack = t.slack }))).slack
+        ≡ t.slack
+    go true c = refl
+    go false true = refl
+    go false false = refl
+
+-- ---- the pass
+
+module _ (sums : List ℕ) (holds : HoldsSums sums) (old : List ℕ) (low slack : ℕ) (pre : PassOver sums low old) where
+  abbrev pub last_place : ℕ
+  last_place = length old - 1
+
+  abbrev pub start : SincePeak
+  start = record { last = 0; peak = 0; floor = 0; bar = slack; slack = slack }
+
+  abbrev pub peaks : ℕ → SincePeak
+  peaks = state_at since_peak_after (sums_in sums) low old start
+
+  abbrev pub without_peaks : ℕ → List ℕ
+  without_peaks = left_at since_peak_after (λ t. t.last) (sums_in sums) low old start
+
+  slack_kept : (j : ℕ) → (peaks j).slack ≡ slack
+  unfolding state_at
+  slack_kept zero = refl
+  slack_kept (suc j) = after-slack (peaks j) (ahead_by (sums_in sums) old low (suc j)) ∙ slack_kept j
+
+  walk : (j : ℕ) → j < length old → SincePeakAt (sums_in sums) low old (without_peaks j) j (peaks j) (ahead_by (sums_in sums) old low j)
+  unfolding state_at left_at ahead_by
+  walk zero h = since_peak-start (sums_in sums) low slack old pre.track.starts
+  walk (suc j) h =
+      since_peak_next (sums_in sums) (film_of sums holds).grows low old (without_peaks j) j (peaks j)
+      (ahead_by (sums_in sums) old low j) (walk j (omega arith)) (λ u l. pre.track.rising u (omega arith))
+      (left-room since_peak_after (λ t. t.last) (sums_in sums) start low old j h) (peaks (suc j)) refl
+
+  pub peaks_left : (frame : ℕ) → slack ≡ frame - low → SameFrom sums low frame old (without_peaks last_place) ((peaks last_place).last + 1)
+  peaks_left frame is =
+      let t = peaks last_place in
+      let so = walk last_place (omega (arith, pre.track.some_place)) in
+      let back : t.last + 1 - 1 ≡ t.last = omega arith in
+      record {
+        fewer = omega (arith, so.few, pre.track.some_place);
+        track = left_track _ old (without_peaks last_place) (length old) t.last pre.track so.starts so.few so.inside so.rising;
+        same = λ r h.
+            let at = so.rates r h in
+            let alone : t.slack - (r - low) ≡ frame - r = omega (arith, is, slack_kept last_place) in
+            rw (back, ← alone) (same_most _ _ _ at.over at.under);
+      }
+    where
+      same_most : (x y z : ℕ) → x ≤ max y z → y ≤ max x z → max x z ≡ max y z
+      same_most x y z h l = omega arith

@@ -1,25 +1,20 @@
 -- Passes that stop at some places only.
-use mathlib.Core.Bool.{Bool, true, false, cond}
-use mathlib.Core.List.{List}
+use mathlib.Core.List.{List, ◌++◌}
 use mathlib.Core.Path.{◌≡◌, refl, sym, ◌∙◌}
 use Prim.Native.Nat.{ℕ, zero, suc, ◌+◌, ◌-◌, ◌*◌, ◌≤◌, ◌<◌, max}
 use native.Mathlib.Omega.{arith}
 use native.Mathlib.Decide.{ℕ_discrete}
-use lib.ListN.{length, get_or, set}
+use lib.ListN.{length, get_or, take, drop, set, length-set}
+use Rattle.std.proofs.lemmas.List.{length-take-le, get_or-take, get_or_append_left}
 use lib.Seq.{get_or-set_same, get_or-set_other}
 use Rattle.job.specs.Limits.{greatest_total}
 use Rattle.job.specs.Sums.{sums_in}
 use Rattle.pacing.specs.Pace.{ahead, most_ahead}
-use Rattle.pacing.specs.Work.{lead_after, ahead_by, most_by, next_stop, Track, Places, SameFrom, SameUpTo}
+use Rattle.pacing.specs.Work.{lead_after, ahead_by, most_by, next_stop, Track, Places, SameFrom, SameUpTo, state_at, left_at}
 use Rattle.pacing.specs.declared.Lead.{Lead}
 use Rattle.pacing.specs.declared.Stop.{Stop}
 use Rattle.pacing.proofs.SmallFrameLaws.{Steps}
 use Rattle.pacing.proofs.LeadLaws.{stepped, steps_higher}
-
--- the selected one of two numbers lies between bounds of both
-pub selected : (b : Bool) (x y r low high : ℕ) → r ≡ cond b x y → (low ≤ x) × (x ≤ high) → (low ≤ y) × (y ≤ high) → (low ≤ r) × (r ≤ high)
-selected true x y r low high is h l = (omega (arith, is), omega (arith, is))
-selected false x y r low high is h l = (omega (arith, is), omega (arith, is))
 
 -- ---- what a pass has at its place
 
@@ -170,6 +165,32 @@ left_track M old places count last was starts few inside rising =
       rising = λ j h. rising j (omega arith);
     }
 
+-- ---- a pass that goes on by a state
+
+pub state_next : {S : Type 0} (after : S → ℕ → S) (T : ℕ → ℕ) (r : ℕ) (old : List ℕ) (start : S) (j : ℕ)
+    → state_at after T r old start (suc j) ≡ after (state_at after T r old start j) (ahead_by T old r (suc j))
+unfolding state_at
+state_next after T r old start j = refl
+
+pub left_next : {S : Type 0} (after : S → ℕ → S) (last_of : S → ℕ) (T : ℕ → ℕ) (r : ℕ) (old : List ℕ) (start : S) (j : ℕ)
+    → left_at after last_of T r old start (suc j)
+    ≡ set (left_at after last_of T r old start j) (last_of (state_at after T r old start (suc j))) (get_or old (suc j) 0)
+unfolding left_at
+left_next after last_of T r old start j = refl
+
+pub length-left : {S : Type 0} (after : S → ℕ → S) (last_of : S → ℕ) (T : ℕ → ℕ) (r : ℕ) (old : List ℕ) (start : S) (j : ℕ)
+    → length (left_at after last_of T r old start j) ≡ length old
+unfolding left_at
+length-left after last_of T r old start zero = refl
+length-left after last_of T r old start (suc j) =
+    length-set (left_at after last_of T r old start j) (last_of (state_at after T r old start (suc j))) (get_or old (suc j) 0)
+    ∙ length-left after last_of T r old start j
+
+-- there is room for the next place
+pub left-room : {S : Type 0} (after : S → ℕ → S) (last_of : S → ℕ) (T : ℕ → ℕ) (start : S) (r : ℕ) (old : List ℕ) (j : ℕ)
+    → suc j < length old → suc j < length (left_at after last_of T r old start j)
+left-room after last_of T start r old j h = omega (arith, length-left after last_of T r old start j)
+
 module _ (sums : List ℕ) where
   -- the same places for fewer rates
   pub places_within : (low high low' high' frame : ℕ) (places : List ℕ) (k : ℕ) → low ≤ low' → high' ≤ high
@@ -177,35 +198,61 @@ module _ (sums : List ℕ) where
   places_within low high low' high' frame places k h l so =
       record { track = so.track; small = so.small; enough = λ r a b. so.enough r (omega arith) (omega arith) }
 
-  -- and other places with which as much is found
-  pub places_same-from : (low high frame : ℕ) (old : List ℕ) (k : ℕ) (new : List ℕ) (k' : ℕ) → Places sums low high frame old k
-      → SameFrom sums low frame old k new k' → Places sums low high frame new k'
-  places_same-from low high frame old k new k' was so =
-      record { track = so.track; small = was.small; enough = λ r a b. so.same r a ∙ was.enough r a b }
+  -- ---- the first k places alone, and back among the rest
 
-  pub places_same_up_to : (low high frame : ℕ) (old : List ℕ) (k : ℕ) (new : List ℕ) (k' : ℕ) → Places sums low high frame old k
-      → SameUpTo sums high old k new k' → Places sums low high frame new k'
-  places_same_up_to low high frame old k new k' was so =
-      record { track = so.track; small = was.small; enough = λ r a b. rw (so.same r b) (was.enough r a b) }
+  module _ (low high frame k : ℕ) where
+    -- other places, the first k of which are the same
+    places_same : (p q : List ℕ) → ((u : ℕ) → u < k → get_or q u 0 ≡ get_or p u 0) → Places sums low high frame p k
+        → Places sums low high frame q k
+    places_same p q same so =
+        let some = so.track.some_place in
+        record {
+          track =
+              record {
+                some_place = some;
+                few = so.track.few;
+                starts = same 0 some ∙ so.track.starts;
+                inside = λ j h. omega (arith, same j h, so.track.inside j h);
+                rising = λ j h. omega (arith, same j (omega arith), same (suc j) h, so.track.rising j h);
+              };
+          small = so.small;
+          enough = λ r a b. rw (most_same (sums_in sums) r q p (k - 1) (λ u h. same u (omega (arith, some)))) (so.enough r a b);
+        }
+
+    pub places-alone : (places : List ℕ) → k ≤ length places → Places sums low high frame places k
+        → Places sums low high frame (take k places) (length (take k places))
+    places-alone places fits so =
+        rw (length-take-le k places fits) (places_same places (take k places) (λ u h. get_or-take k places u 0 h) so)
+
+    pub places_back : (places rest : List ℕ) → k ≤ length places → Places sums low high frame places k
+        → Places sums low high frame (places ++ rest) k
+    places_back places rest fits so = places_same places (places ++ rest) (λ u h. get_or_append_left places rest 0 u (omega arith)) so
+
+  -- the first k places made others, with which as much is found, and back among the rest
+  module _ (low high frame k : ℕ) (places : List ℕ) (fits : k ≤ length places) (was : Places sums low high frame places k) (new : List ℕ)
+      (long : length new ≡ length (take k places)) (n : ℕ) where
+    all : Places sums low high frame (take k places) (length (take k places))
+    all = places-alone low high frame k places fits was
+
+    pub places_same-from : SameFrom sums low frame (take k places) new n → Places sums low high frame (new ++ drop k places) n
+    places_same-from so =
+        places_back low high frame n new _ (omega (arith, so.fewer))
+        (record { track = so.track; small = was.small; enough = λ r a b. so.same r a ∙ all.enough r a b })
+
+    pub places_same_up_to : SameUpTo sums high (take k places) new n → Places sums low high frame (new ++ drop k places) n
+    places_same_up_to so =
+        places_back low high frame n new _ (omega (arith, so.fewer))
+        (record { track = so.track; small = was.small; enough = λ r a b. rw (so.same r b) (all.enough r a b) })
 
 -- a lead at the first place, and at the next one
 pub lead_start : (T : ℕ → ℕ) (places : List ℕ) (r : ℕ) → LeadBy T places r 0 (record { ahead = 0; most = 0 })
 unfolding ahead_by most_by
 lead_start T places r = record { so_much = refl; so_far = refl }
 
-lead_next : (T : ℕ → ℕ) (places : List ℕ) (r j : ℕ) (p : Lead) → LeadBy T places r j p
+pub lead_next : (T : ℕ → ℕ) (places : List ℕ) (r j : ℕ) (p : Lead) → LeadBy T places r j p
     → LeadBy T places r (suc j) (lead_after p (T (get_or places (suc j) 0) - T (get_or places j 0)) (get_or places (suc j) 0 - get_or places j 0) r)
 unfolding ahead_by most_by
 lead_next T places r j p so = rw (so.so_much, so.so_far) (record { so_much = refl; so_far = refl })
-
--- the same in a turn of the pass, which is at place j - 1, with the sums at both places
-pub lead_on : (T : ℕ → ℕ) (places : List ℕ) (r j at sum next : ℕ) (p p' : Lead) → 0 < j → at ≡ get_or places (j - 1) 0
-    → sum ≡ T at → next ≡ T (get_or places j 0)
-    → LeadBy T places r (j - 1) p → p' ≡ lead_after p (next - sum) (get_or places j 0 - at) r → LeadBy T places r (j + 1 - 1) p'
-lead_on T places r j at sum next p p' some here before-it after so is =
-    let this : suc (j - 1) ≡ j = omega arith in
-    let back : j + 1 - 1 ≡ j = omega arith in
-    rw (is, back, before-it, after, here) (rw this at (lead_next T places r (j - 1) p so))
 
 -- and what has been found at the last place
 pub lead_all : (sums : List ℕ) (frame : ℕ) (places : List ℕ) (k r : ℕ) (p : Lead) (x : ℕ) → Places sums r r frame places k

@@ -34,21 +34,6 @@ pub record StepsSoFar (T : ℕ → ℕ) (r m : ℕ) (places : List ℕ) (k last 
   pub falling : last ≤ r → (1 < k) × SmallFrames T r (get_or places (k - 2) 0) m
 
 module _ (T : ℕ → ℕ) (r : ℕ) where
-  pub steps-start : (places : List ℕ) → get_or places 0 0 ≡ 0 → StepsSoFar T r 0 places 1 (r + 1)
-  steps-start places z =
-      record {
-        steps =
-            record {
-              some_place = omega arith;
-              few = omega arith;
-              starts = z;
-              ends = z;
-              inside = λ j h. let e : j ≡ 0 = omega arith in rw e (omega (arith, z));
-              steps = λ j h. absurd (omega arith);
-            };
-        falling = λ h. absurd (omega arith);
-      }
-
   module _ (m to k last new : ℕ) (places : List ℕ) (so : StepsSoFar T r m places k last) (room : to < length places) (way : Step T r m to)
       (flat : new ≤ r → SmallFrames T r m to) where
     kept : StepsSoFar T r to (set places k to) (suc k) new

@@ -1,2 +1,3 @@
 pub mod Pace
 pub mod Work
+pub mod Since

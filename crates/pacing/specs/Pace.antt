@@ -1,21 +1,11 @@
 -- What a film asks of a link at a given rate, by its sums T(0) to T(M): a delay that is in time, and the need.
-use Rattle.std.specs.Prelude.{Bool, not, List, ℕ, zero, suc, ◌+◌, ◌-◌, ◌*◌, ◌≤◌, ◌<◌, max, ltb, length, get_or}
+use Rattle.std.specs.Prelude.{Bool, not, Option, Some, None, List, ◌≡◌, ℕ, zero, suc, ◌+◌, ◌-◌, ◌*◌, ◌≤◌, ◌<◌, max, ltb, length, get_or}
 use Rattle.base.specs.Range.{some, first}
 use Rattle.base.specs.Table.{tab}
-use Rattle.job.specs.Limits.{most_nodes, most_frames, longest_delay, greatest_rate}
-use Rattle.job.specs.Sums.{sums_in, HoldsSums}
+use Rattle.job.specs.Limits.{most_nodes, longest_delay, greatest_rate}
+use Rattle.job.specs.Sums.{sums_in}
 
 -- ---- what is asked
-
--- the sums T(0) to T(M) of a film within the limits
-pub record FilmSums (sums : List ℕ) : Type 0 where
-  pub holds : HoldsSums sums
-  pub frames_to : length sums ≤ most_frames + 1
-
--- and a place for each of its slots
-pub record WithPlaces (sums places : List ℕ) : Type 0 where
-  pub film : FilmSums sums
-  pub room : length sums ≤ length places
 
 -- rates within the limits
 abbrev pub RatesWithin : List ℕ → Type 0
@@ -30,6 +20,11 @@ in_time r M T w = not (some (λ m. ltb (r * (m + w)) (T m)) (M + 1))
 -- the least delay that is in time at rate r; one more than the longest delay where none up to that is
 abbrev pub delay_at : ℕ → ℕ → (ℕ → ℕ) → ℕ
 delay_at r M T = first (in_time r M T) (longest_delay + 1)
+
+-- what a search for the delay d gives: d where it is up to the longest, and nothing where it is more
+abbrev pub DelayFound : Option ℕ → ℕ → Type 0
+DelayFound (Some w) d = (w ≡ d) × (w ≤ longest_delay)
+DelayFound None d = d ≡ longest_delay + 1
 
 -- the number of an answer where none is
 abbrev pub no_delay : ℕ

@@ -1,10 +1,9 @@
 -- What the inner functions of a pass are handed and give.
-use Rattle.std.specs.Prelude.{cond, List, ◌≡◌, ℕ, zero, suc, ◌+◌, ◌-◌, ◌*◌, ◌≤◌, ◌<◌, max, min, length, get_or, eqb, ltb}
-use Rattle.job.specs.Limits.{most_nodes, most_frames, longest_delay, greatest_rate, greatest_total}
+use Rattle.std.specs.Prelude.{cond, Option, Some, None, List, ◌==◌, position, ◌≡◌, ℕ, zero, suc, ◌+◌, ◌-◌, ◌*◌, ◌≤◌, ◌<◌, max, min, length, get_or, set, ltb}
+use Rattle.job.specs.Limits.{most_nodes, longest_delay, greatest_rate, greatest_total}
 use Rattle.job.specs.Sums.{sums_in}
-use Rattle.pacing.specs.Pace.{FilmSums, WithPlaces, most_ahead}
+use Rattle.pacing.specs.Pace.{most_ahead}
 use Rattle.pacing.specs.declared.Lead.{Lead}
-use Rattle.pacing.specs.declared.Four.{Four}
 use Rattle.pacing.specs.declared.Stop.{Stop}
 use Rattle.pacing.specs.declared.SincePeak.{SincePeak}
 use Rattle.pacing.specs.declared.SinceValley.{SinceValley}
@@ -36,6 +35,19 @@ unfoldable pub most_by : (ℕ → ℕ) → List ℕ → ℕ → ℕ → ℕ
 most_by T places r zero = 0
 most_by T places r (suc j) = max (most_by T places r j) (ahead_by T places r (suc j))
 
+-- so many rates are taken at once
+abbrev pub at_once : ℕ
+at_once = 4
+
+-- lead i of some
+abbrev pub lead_at : List Lead → ℕ → Lead
+lead_at leads i = get_or leads i (record { ahead = 0; most = 0 })
+
+-- leads at rates within the limits, none more than a film
+pub record LeadsWithin (leads : List Lead) (rates : List ℕ) : Type 0 where
+  pub ahead : (i : ℕ) → i < at_once → (lead_at leads i).ahead ≤ greatest_total
+  pub rate : (i : ℕ) → i < at_once → get_or rates i 0 ≤ greatest_rate
+
 -- a lead some slots on, in which so much is played and r a slot is carried
 abbrev pub lead_after : Lead → ℕ → ℕ → ℕ → Lead
 lead_after p played slots r =
@@ -47,7 +59,6 @@ next_stop T to r s = record { at = to; sum = T to; lead = s.lead + (T to - T s.a
 
 -- a stop of a pass at rate r, with slot `to` after it
 pub record StopBefore (sums : List ℕ) (to r : ℕ) (s : Stop) : Type 0 where
-  pub film : FilmSums sums
   pub rate : r ≤ greatest_rate
   pub forward : s.at < to
   pub inside : to < length sums
@@ -62,13 +73,12 @@ pub record Track (M : ℕ) (places : List ℕ) (k : ℕ) : Type 0 where
   pub inside : (j : ℕ) → j < k → get_or places j 0 ≤ M
   pub rising : (j : ℕ) → suc j < k → get_or places j 0 < get_or places (suc j) 0
 
--- a pass at rate r over the first k of the places
-pub record PassOver (sums : List ℕ) (r : ℕ) (places : List ℕ) (k : ℕ) : Type 0 where
-  pub with_places : WithPlaces sums places
+-- a pass at rate r over places
+pub record PassOver (sums : List ℕ) (r : ℕ) (places : List ℕ) : Type 0 where
   pub rate : r ≤ greatest_rate
-  pub track : Track (length sums - 1) places k
+  pub track : Track (length sums - 1) places (length places)
 
--- at each rate from `low` to `high`, a pass over the places finds the need, or one frame alone gets as far ahead
+-- at each rate from `low` to `high`, a pass over the first k of the places finds the need, or one frame alone gets as far ahead
 pub record Places (sums : List ℕ) (low high frame : ℕ) (places : List ℕ) (k : ℕ) : Type 0 where
   pub track : Track (length sums - 1) places k
   pub small : frame ≤ greatest_total
@@ -80,44 +90,46 @@ pub record PlacesAt (sums : List ℕ) (frame : ℕ) (places : List ℕ) (k r : �
   pub passes : Places sums r r frame places k
   pub rate : r ≤ greatest_rate
 
--- at four rates
-pub record PlacesAtFour (sums : List ℕ) (frame : ℕ) (places : List ℕ) (k : ℕ) (r : Four) : Type 0 where
-  pub with_places : WithPlaces sums places
-  pub a : PlacesAt sums frame places k r.a
-  pub b : PlacesAt sums frame places k r.b
-  pub c : PlacesAt sums frame places k r.c
-  pub d : PlacesAt sums frame places k r.d
+-- at the rates taken at once
+pub record PlacesAtOnce (sums : List ℕ) (frame : ℕ) (places rates : List ℕ) : Type 0 where
+  pub track : Track (length sums - 1) places (length places)
+  pub each : (i : ℕ) → i < at_once → PlacesAt sums frame places (length places) (get_or rates i 0)
 
 -- ---- slots left out
 
--- other places with which as much is found at each rate from `low` on, or one frame alone gets as far ahead
-pub record SameFrom (sums : List ℕ) (low frame : ℕ) (old : List ℕ) (k : ℕ) (new : List ℕ) (k' : ℕ) : Type 0 where
-  pub track : Track (length sums - 1) new k'
+-- the first k of other places, with which as much is found at each rate from `low` on, or one frame alone gets as far ahead
+pub record SameFrom (sums : List ℕ) (low frame : ℕ) (old new : List ℕ) (k : ℕ) : Type 0 where
+  pub fewer : k ≤ length old
+  pub track : Track (length sums - 1) new k
   pub same : (r : ℕ) → low ≤ r
-      → max (most_by (sums_in sums) new r (k' - 1)) (frame - r) ≡ max (most_by (sums_in sums) old r (k - 1)) (frame - r)
+      → max (most_by (sums_in sums) new r (k - 1)) (frame - r) ≡ max (most_by (sums_in sums) old r (length old - 1)) (frame - r)
 
 -- and at each rate up to `high`
-pub record SameUpTo (sums : List ℕ) (high : ℕ) (old : List ℕ) (k : ℕ) (new : List ℕ) (k' : ℕ) : Type 0 where
-  pub track : Track (length sums - 1) new k'
-  pub same : (r : ℕ) → r ≤ high → most_by (sums_in sums) new r (k' - 1) ≡ most_by (sums_in sums) old r (k - 1)
+pub record SameUpTo (sums : List ℕ) (high : ℕ) (old new : List ℕ) (k : ℕ) : Type 0 where
+  pub fewer : k ≤ length old
+  pub track : Track (length sums - 1) new k
+  pub same : (r : ℕ) → r ≤ high → most_by (sums_in sums) new r (k - 1) ≡ most_by (sums_in sums) old r (length old - 1)
 
--- what is asked of a state since a peak, of the next lead and of the slack
-pub record SincePeakWithin (t : SincePeak) (lead slack : ℕ) : Type 0 where
-  pub last_to : t.last ≤ most_frames
-  pub peak_to : t.peak ≤ most_frames
-  pub under : t.floor ≤ t.bar
-  pub lead_to : lead ≤ greatest_total
-  pub slack_to : slack ≤ greatest_total
+-- A pass at rate r over old places that goes on by a state, which the lead at each next place makes another, and puts that place where the
+-- state has the last of those that are left: the state at place j, and the places as they are then.
+unfoldable pub state_at : {S : Type 0} → (S → ℕ → S) → (ℕ → ℕ) → ℕ → List ℕ → S → ℕ → S
+state_at after T r old start zero = start
+state_at after T r old start (suc j) = after (state_at after T r old start j) (ahead_by T old r (suc j))
+
+unfoldable pub left_at : {S : Type 0} → (S → ℕ → S) → (S → ℕ) → (ℕ → ℕ) → ℕ → List ℕ → S → ℕ → List ℕ
+left_at after last_of T r old start zero = old
+left_at after last_of T r old start (suc j) =
+    set (left_at after last_of T r old start j) (last_of (state_at after T r old start (suc j))) (get_or old (suc j) 0)
 
 -- what the next place, with the lead at it, makes of the state since a peak: a new peak; a place to be kept for now; or, on the floor,
 -- one with which all since the peak are left out
-unfoldable pub since_peak_after : SincePeak → ℕ → ℕ → SincePeak
-since_peak_after t lead slack =
+unfoldable pub since_peak_after : SincePeak → ℕ → SincePeak
+since_peak_after t lead =
     cond (ltb t.bar lead)
-    (record { last = t.last + 1; peak = t.last + 1; floor = lead; bar = lead })
+    (record { last = t.last + 1; peak = t.last + 1; floor = lead; bar = lead; slack = t.slack })
     (cond (ltb t.floor lead)
-    (record { last = t.last + 1; peak = t.peak; floor = t.floor; bar = min t.bar (t.floor + slack) })
-    (record { last = t.peak + 1; peak = t.peak; floor = lead; bar = min t.bar (lead + slack) }))
+    (record { last = t.last + 1; peak = t.peak; floor = t.floor; bar = min t.bar (t.floor + t.slack); slack = t.slack })
+    (record { last = t.peak + 1; peak = t.peak; floor = lead; bar = min t.bar (lead + t.slack); slack = t.slack }))
 
 -- and of the state since a valley: a new valley; a place to be kept for now; or, as high as the ceiling, one with which all since the
 -- valley are left out
@@ -129,10 +141,7 @@ since_valley_after t lead =
     (record { last = t.valley + 1; valley = t.valley; base = t.base; ceiling = lead }))
     (record { last = t.last + 1; valley = t.last + 1; base = lead; ceiling = lead })
 
--- ---- four rates at a time
-
-abbrev pub four_of : (ℕ → ℕ) → Four → Four
-four_of f r = record { a = f r.a; b = f r.b; c = f r.c; d = f r.d }
+-- ---- some rates at a time
 
 -- r is the least from y on of the first u rates, and the top where none of them is
 pub record NextRate (rates : List ℕ) (u y top r : ℕ) : Type 0 where
@@ -140,14 +149,21 @@ pub record NextRate (rates : List ℕ) (u y top r : ℕ) : Type 0 where
   pub to : r ≤ top
   pub least : (v : ℕ) → v < u → y ≤ get_or rates v 0 → r ≤ get_or rates v 0
 
--- four such rates, each after the one before it
-pub record NextFour (rates : List ℕ) (y top : ℕ) (r : Four) : Type 0 where
-  pub a : NextRate rates most_nodes y top r.a
-  pub b : NextRate rates most_nodes (r.a + 1) top r.b
-  pub c : NextRate rates most_nodes (r.b + 1) top r.c
-  pub d : NextRate rates most_nodes (r.c + 1) top r.d
+-- from where the next of such rates after the first i is looked for
+abbrev pub look_from : ℕ → List ℕ → ℕ → ℕ
+look_from y next zero = y
+look_from y next (suc i) = get_or next i 0 + 1
 
--- the number of x at which r has the rate; what there was where it hasn't
-unfoldable pub chosen : Four → Four → ℕ → ℕ → ℕ
-chosen r x rate old =
-    cond (eqb rate r.a) x.a (cond (eqb rate r.b) x.b (cond (eqb rate r.c) x.c (cond (eqb rate r.d) x.d old)))
+-- such rates, each after the one before it
+pub record NextRates (rates : List ℕ) (y top : ℕ) (next : List ℕ) : Type 0 where
+  pub long : length next ≡ at_once
+  pub each : (i : ℕ) → i < at_once → NextRate rates most_nodes (look_from y next i) top (get_or next i 0)
+
+-- the number at a place; another one where there is no place
+abbrev pub number_at : Option ℕ → List ℕ → ℕ → ℕ
+number_at (Some k) numbers old = get_or numbers k 0
+number_at None numbers old = old
+
+-- the number at the place where `taken` has the rate; what there was where it hasn't
+abbrev pub chosen : List ℕ → List ℕ → ℕ → ℕ → ℕ
+chosen taken numbers rate old = number_at (position (λ r. r == rate) taken) numbers old

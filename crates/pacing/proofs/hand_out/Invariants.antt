@@ -1,12 +1,7 @@
-use Prim.Native.Nat.{◌-◌}
 use lib.ListN.{get_or}
 use Rattle.base.specs.Table.{Filled}
-use Rattle.job.specs.Limits.{most_nodes}
 use Rattle.pacing.specs.Work.{chosen}
 use Rattle.pacing.proofs.hand_out.Given as goal
 
 abbrev pub invariant-loop-i : goal.invariant-loop-i
-invariant-loop-i l = Filled (λ k. chosen l.r l.x (get_or l.rates k 0) (get_or l.initial.needs k 0)) l.i l.initial.needs l.needs
-
-abbrev pub decreases-loop-i : goal.decreases-loop-i
-decreases-loop-i l = most_nodes - l.i
+invariant-loop-i l = Filled (λ k. chosen l.taken l.found (get_or l.rates k 0) (get_or l.initial.needs k 0)) l.i l.initial.needs l.needs

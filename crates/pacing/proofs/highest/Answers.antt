@@ -1,22 +1,16 @@
--- The loop has the greatest of the rates before i.
+-- The loop has the greatest of the rates before its place.
 use native.Mathlib.Omega.{arith}
 use mathlib.Core.Path.{◌≡◌, refl}
 use Prim.Native.Nat.{suc, ◌+◌}
 use Rattle.base.specs.Range.{greatest}
-use Rattle.job.specs.Limits.{most_nodes}
 use Rattle.pacing.proofs.highest.Goals as goal
 
-pub loop-i-init : goal.loop-i-init
+pub loop-rate-init : goal.loop-rate-init
 unfolding greatest
-loop-i-init c = (omega arith, refl)
+loop-rate-init c = refl
 
-pub loop-i-preserved : goal.loop-i-preserved
+pub loop-rate-preserved : goal.loop-rate-preserved
 unfolding greatest
-loop-i-preserved c =
-    let next : c.loop-i.i + 1 ≡ suc c.loop-i.i = omega arith in
-    (omega (arith, c.loop-i-test.true), rw (c.max-top.ensures, c.loop-i.invariant.1, next) refl)
-
-pub returns : goal.returns
-returns c =
-    let all : c.loop-i.i ≡ most_nodes = omega (arith, c.loop-i-test.false, c.loop-i.invariant.0) in
-    rw all at c.loop-i.invariant.1
+loop-rate-preserved c =
+    let next : c.loop-rate.rate-index + 1 ≡ suc c.loop-rate.rate-index = omega arith in
+    rw (c.max-top.ensures, c.loop-rate.invariant, next) refl

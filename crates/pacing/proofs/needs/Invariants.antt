@@ -1,9 +1,7 @@
 use mathlib.Core.List.{List}
-use mathlib.Core.Path.{◌≡◌}
 use Prim.Native.Nat.{ℕ, ◌+◌, ◌-◌, ◌≤◌, ◌<◌}
 use lib.ListN.{length, get_or}
 use Rattle.job.specs.Limits.{most_nodes, greatest_rate}
-use Rattle.pacing.specs.Pace.{WithPlaces}
 use Rattle.pacing.specs.Work.{Places}
 use Rattle.pacing.proofs.NeedLaws.{NeedsBelow}
 use Rattle.pacing.proofs.needs.Given as goal
@@ -14,13 +12,13 @@ pub record Found (sums rates places : List ℕ) (top largest y done count : ℕ)
   pub top_to : top ≤ greatest_rate
   pub above : (i : ℕ) → i < most_nodes → get_or rates i 0 ≤ top
   pub behind : done ≤ y
-  pub with_places : WithPlaces sums places
+  pub fits : count ≤ length places
   pub enough : Places sums done top largest places count
   pub found : NeedsBelow sums rates y rules
 
 abbrev pub invariant-loop-y : goal.invariant-loop-y
 invariant-loop-y l =
-    (length l.places ≡ length l.initial.places) × Found l.sums l.rates l.places l.top l.largest l.y l.done l.count l.needs
+    Found l.sums.t.now l.rates l.places l.top l.largest l.y l.done l.count l.needs
 
 abbrev pub decreases-loop-y : goal.decreases-loop-y
 decreases-loop-y l = l.top + 1 - l.y

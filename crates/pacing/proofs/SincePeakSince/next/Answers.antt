@@ -6,28 +6,27 @@ use Prim.Native.Nat.{ℕ, ◌+◌, ◌≤◌, ◌<◌, min}
 use native.Mathlib.Decide.{dec_lt}
 use lib.Dec.{ltb}
 use borrow.Author.Tests.{lt-ltb, le-ltb}
-use Rattle.job.specs.Limits.{most_frames}
 use Rattle.pacing.specs.Work.{since_peak_after}
 use Rattle.pacing.specs.declared.SincePeak.{SincePeak}
-use Rattle.pacing.proofs.PlaceLaws.{selected}
-use Rattle.pacing.proofs.next_since_peak.Goals as goal
+use Rattle.pacing.proofs.SincePeakSince.next.Goals as goal
 
 -- the state as it is made field by field
-abbrev fields : SincePeak → ℕ → ℕ → SincePeak
-fields t lead slack =
+abbrev fields : SincePeak → ℕ → SincePeak
+fields t lead =
     let last = cond (ltb t.floor lead) t.last t.peak + 1 in
     record {
       last = last;
       peak = cond (ltb t.bar lead) last t.peak;
       floor = cond (ltb t.bar lead) lead (min t.floor lead);
-      bar = cond (ltb t.bar lead) lead (min t.bar (min t.floor lead + slack));
+      bar = cond (ltb t.bar lead) lead (min t.bar (min t.floor lead + t.slack));
+      slack = t.slack;
     }
 
-made : (t : SincePeak) (lead slack : ℕ) → t.floor ≤ t.bar → fields t lead slack ≡ since_peak_after t lead slack
+made : (t : SincePeak) (lead : ℕ) → t.floor ≤ t.bar → fields t lead ≡ since_peak_after t lead
 unfolding since_peak_after
-made t lead slack under = go (dec_lt t.bar lead) (dec_lt t.floor lead)
+made t lead under = go (dec_lt t.bar lead) (dec_lt t.floor lead)
   where
-    go : Dec (t.bar < lead) → Dec (t.floor < lead) → fields t lead slack ≡ since_peak_after t lead slack
+    go : Dec (t.bar < lead) → Dec (t.floor < lead) → fields t lead ≡ since_peak_after t lead
     go (yes above) _ = rw (lt-ltb t.bar lead above, lt-ltb t.floor lead (omega arith)) refl
     go (no ne) (yes over) =
         let e : min t.floor lead ≡ t.floor = omega arith in
@@ -36,22 +35,13 @@ made t lead slack under = go (dec_lt t.bar lead) (dec_lt t.floor lead)
         let e : min t.floor lead ≡ lead = omega arith in
         rw (le-ltb t.bar lead (omega arith), le-ltb t.floor lead (omega arith), e) refl
 
-pub overflow_add-last : goal.overflow_add-last
-overflow_add-last c =
-    let t = c.args.t in
-    omega (
-      arith,
-      selected (ltb t.floor c.args.lead) t.last t.peak _ 0 most_frames c.select_usize-last.ensures
-          (omega arith, c.requires.last_to) (omega arith, c.requires.peak_to),
-    )
-
 pub returns : goal.returns
 returns c =
     rw (
+      c.select-3.ensures,
       c.select-2.ensures,
       c.select.ensures,
-      c.select_usize.ensures,
       c.min-bar.ensures,
       c.min-floor.ensures,
-      c.select_usize-last.ensures,
-    ) (made c.args.t c.args.lead c.args.slack c.requires.under)
+      c.select-last.ensures,
+    ) (made c.args.self c.args.lead c.requires.0.under)

@@ -5,11 +5,9 @@ use Prim.Native.Nat.{ℕ, ◌+◌, ◌<◌, max, min}
 use native.Mathlib.Decide.{dec_lt}
 use lib.Dec.{ltb}
 use borrow.Author.Tests.{lt-ltb, le-ltb}
-use Rattle.job.specs.Limits.{most_frames}
 use Rattle.pacing.specs.Work.{since_valley_after}
 use Rattle.pacing.specs.declared.SinceValley.{SinceValley}
-use Rattle.pacing.proofs.PlaceLaws.{selected}
-use Rattle.pacing.proofs.next_since_valley.Goals as goal
+use Rattle.pacing.proofs.SinceValleySince.next.Goals as goal
 
 -- the state as it is made field by field
 abbrev fields : SinceValley → ℕ → SinceValley
@@ -39,27 +37,13 @@ made t lead = go (dec_lt t.base lead) (dec_lt lead t.ceiling)
         let m : max t.ceiling lead ≡ lead = omega arith in
         rw (lt-ltb t.base lead over, le-ltb lead t.ceiling (omega arith), e, m) refl
 
-pub overflow_add-last : goal.overflow_add-last
-overflow_add-last c =
-    let t = c.args.t in
-    let lead = c.args.lead in
-    let onto =
-    selected (ltb lead t.ceiling) t.last t.valley c.select_usize-onto.result 0 most_frames
-    c.select_usize-onto.ensures
-    (omega arith, c.requires.0) (omega arith, c.requires.1) in
-    omega (
-      arith,
-      selected (ltb t.base lead) c.select_usize-onto.result t.last _ 0 most_frames c.select_usize-last.ensures onto
-          (omega arith, c.requires.0),
-    )
-
 pub returns : goal.returns
 returns c =
     rw (
-      c.select.ensures,
+      c.select-2.ensures,
       c.min.ensures,
-      c.select_usize.ensures,
+      c.select.ensures,
       c.max-ceiling.ensures,
-      c.select_usize-last.ensures,
-      c.select_usize-onto.ensures,
-    ) (made c.args.t c.args.lead)
+      c.select-last.ensures,
+      c.select-onto.ensures,
+    ) (made c.args.self c.args.lead)

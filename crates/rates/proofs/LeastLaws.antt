@@ -27,8 +27,9 @@ use Rattle.smoothing.proofs.ChoiceLaws.{chosen-under}
 use Rattle.smoothing.proofs.LeastMemoryLaws.{serves_fast, memory-least}
 use Rattle.job.proofs.SumsLaws.{job-film}
 use Rattle.planner.specs.Rules.{Best}
-use Rattle.planner.specs.declared.Answer.{Answer}
-use Rattle.planner.specs.declared.Answer.TheVariants.{Refused, Planned}
+use Rattle.std.specs.Prelude.{Result, Ok, Err}
+use Rattle.planner.specs.declared.Planned.{Planned}
+use Rattle.planner.specs.declared.Refusal.{Refusal}
 use Rattle.planner.specs.Answer.{Answers, number_of, plan_in}
 use Rattle.planner.proofs.AnswerLaws.{early_none}
 use Rattle.writing.specs.PutBack.{answered_job, memories_in}
@@ -156,18 +157,18 @@ module _ (j : JobData) (within : JobWithin j) where
 
 -- of any bytes that say the job with w and b: where w serves with b, the memory question answers 0 and no peak passes its link's rate
 pub within-rates : (s' : List ℕ) (j : JobData) (w : ℕ) (b : ℕ → ℕ) → job_of s' ≡ answered_job j w b → refusal s' ≡ 0 → Serves j w b
-    → (answer : Answer) (plan₀ plan₁ peaks₀ peaks₁ : List ℕ)
+    → (answer : Result Planned Refusal) (plan₀ plan₁ peaks₀ peaks₁ : List ℕ)
     → length plan₀ ≡ plan_length (job_of s') → length peaks₀ ≡ j.tree.n - 1
     → Answers answer s' plan₀ plan₁ peaks₀ peaks₁
     → (number_of answer ≡ 0) × ((i : ℕ) → link j.tree.n i ≡ true → memories_in peaks₁ i ≤ j.tree.rate i)
 unfolding Answers
-within-rates s' j w b same read (S, (keeps, fits)) (Refused e) plan₀ plan₁ peaks₀ peaks₁ long short says =
+within-rates s' j w b same read (S, (keeps, fits)) (Err e) plan₀ plan₁ peaks₀ peaks₁ long short says =
     absurd
     (⊎_elim
     (λ early. early.1 (early_none s' (length plan₀) (length peaks₀) read long (short ∙ ap (λ (x : JobData). x.tree.n - 1) (sym same))))
     (λ none. none.1.1 S (rw same keeps))
     says.1.1)
-within-rates s' j w b same read (S, (keeps, fits)) (Planned last all) plan₀ plan₁ peaks₀ peaks₁ long short says =
+within-rates s' j w b same read (S, (keeps, fits)) (Ok planned) plan₀ plan₁ peaks₀ peaks₁ long short says =
     (refl, λ i h. at i (link_in j.tree.n i h) h)
   where
     best : Best (job_of s') (plan_in (job_of s') plan₁)

@@ -7,6 +7,7 @@ use Prim.Native.Nat.{ℕ, suc, ◌+◌, ◌-◌, ◌≤◌, ◌<◌}
 use native.Mathlib.Omega.{arith}
 use native.Mathlib.Nat.{mul-le-mul_left}
 use lib.Dec.{eqb, ltb}
+use Rattle.std.specs.Prelude.{Ok, Err}
 use lib.ListN.{length, get_or}
 use borrow.Author.Tests.{ltb-true, ltb-false, eqb-true}
 use Rattle.base.specs.Number.{number}
@@ -31,7 +32,6 @@ use Rattle.curves.specs.Curves.{D, lower_in, lower_curve, room_in, room, least_u
 use Rattle.job.specs.Sums.{sums_in}
 use Rattle.job.proofs.SumsLaws.{sums_of_lem, job_sums}
 use Rattle.planner.specs.Answer.{no_plan, Answers, plan_in, rows_defined}
-use Rattle.planner.specs.declared.Answer.TheVariants as answer
 use Rattle.planner.proofs.KeepLaws.{problem_of, no_plan_lem, plan_best}
 use Rattle.planner.proofs.AnswerLaws.{early_none}
 use Rattle.writing.specs.PutBack.{memories_in}
@@ -41,7 +41,6 @@ use Rattle.rates.specs.Rates.{total, floor_rate, least_rate, start_delay, memory
 use Rattle.rates.specs.Answer.{Sizes}
 use Rattle.rates.specs.Work.{memory_by}
 use Rattle.rates.specs.Starred.{spell, Line, table, MemorySays, RateSays, Says, Holds}
-use Rattle.rates.specs.declared.Sizing.TheVariants as sizing
 use Rattle.rates.proofs.AnswerLaws as rates
 use Rattle.rates.proofs.LeastLaws.{memory-serves}
 use Rattle.rates.proofs.WorkLaws.{needs_of, memories_by}
@@ -149,7 +148,7 @@ module _ (s : List ℕ) (none : refusal s ≡ 0) where
       → MemorySays s (0 ∷ H (job_of s) ∷ T (job_of s) (job_of s).M ∷ []) (peaks_in (job_of s) (rows_defined (job_of s)) ∷ rows_defined
       (job_of s) ∷ [])
   unfolding starving peaks_in Answers
-  planned fed (answer.Refused e) plan₀ plan₁ peaks₀ peaks₁ long short says =
+  planned fed (Err e) plan₀ plan₁ peaks₀ peaks₁ long short says =
       let fine : (i : ℕ) → leaf j.tree i ≡ true → (k : ℕ) → k ≤ H j → lower_curve j.tree (T j) i k ≤ upper_curve j.tree (T j)
       (T j j.M) i k =
       λ i l k h.
@@ -160,7 +159,7 @@ module _ (s : List ℕ) (none : refusal s ≡ 0) where
       (λ early. early.1 (early_none s (length plan₀) (length peaks₀) none long short))
       (λ no. no.1.1 (plan (problem_of j)) (plan_best j within fine).keeps)
       says.1.1)
-  planned fed (answer.Planned h t) plan₀ plan₁ peaks₀ peaks₁ long short says =
+  planned fed (Ok answer) plan₀ plan₁ peaks₀ peaks₁ long short says =
       let rows : plan₁ ≡ rows_defined j = says.1.1.1.0 in
       let tops : peaks₁ ≡ tab (λ i. peak (H j) (plan_in j (rows_defined j) (suc i))) (j.tree.n - 1) = says.1.1.1.1.1 ∙ rw rows refl in
       (rw (says.1.0, says.1.1.0) refl, rw (rows, tops) refl)
@@ -168,12 +167,12 @@ module _ (s : List ℕ) (none : refusal s ≡ 0) where
   -- one starves: the answer is 12
   starved : starving (job_of s) ≡ true → MemorySays s (12 ∷ 0 ∷ 0 ∷ []) []
   unfolding starving Answers
-  starved found (answer.Refused e) plan₀ plan₁ peaks₀ peaks₁ long short says =
+  starved found (Err e) plan₀ plan₁ peaks₀ peaks₁ long short says =
       ⊎_elim
       (λ early. absurd (early.1 (early_none s (length plan₀) (length peaks₀) none long short)))
       (λ no. (rw no.1.0 refl, refl))
       says.1.1
-  starved found (answer.Planned h t) plan₀ plan₁ peaks₀ peaks₁ long short says =
+  starved found (Ok answer) plan₀ plan₁ peaks₀ peaks₁ long short says =
       let (i, l, e) = which_passes _ j.tree.n found in
       let (k, q, f) = which_passes _ (H j + 1) (and_right (leaf j.tree i) _ e) in
       absurd
@@ -214,15 +213,15 @@ module _ (s : List ℕ) (none : refusal s ≡ 0) where
   sized : (w : ℕ) → w ≤ longest_delay → w ≡ start_delay (job_of s).tree (job_of s).M (T (job_of s))
       → RateSays s (0 ∷ w ∷ total (job_of s).tree (memories_in (memories_of (job_of s))) ∷ []) (memories_of (job_of s) ∷ [])
   unfolding memories_of Sizes
-  sized w fits is-delay (sizing.Refused e) memories₀ memories₁ long says =
+  sized w fits is-delay (Err e) memories₀ memories₁ long says =
       absurd
       (⊎_elim
       (λ early. early.1 (rates.early_none s (length memories₀) none long))
       (λ no. no.1.1 w (memory j.tree j.M (T j) w) fits (memory-serves j within w fits is-delay (memory j.tree j.M (T j) w)
       (λ i h. refl)))
       says.1)
-  sized w fits is-delay (sizing.Sized w' all') memories₀ memories₁ long says =
-      let is-w : w' ≡ w = says.1.1.0 ∙ sym is-delay in
+  sized w fits is-delay (Ok sizing) memories₀ memories₁ long says =
+      let is-w : sizing.delay ≡ w = says.1.1.0 ∙ sym is-delay in
       let sums = tab (T j) (j.M + 1) in
       let by : tab (λ i. memory_by j.tree (needs_of j.tree sums) (suc i)) (j.tree.n - 1) ≡ tab
       (λ i. memory j.tree j.M (T j) w (suc i)) (j.tree.n - 1) =
@@ -233,12 +232,12 @@ module _ (s : List ℕ) (none : refusal s ≡ 0) where
 
   none_in_time : longest_delay < start_delay (job_of s).tree (job_of s).M (T (job_of s)) → RateSays s (no_delay ∷ 0 ∷ 0 ∷ []) []
   unfolding Sizes
-  none_in_time past (sizing.Refused e) memories₀ memories₁ long says =
+  none_in_time past (Err e) memories₀ memories₁ long says =
       ⊎_elim
       (λ early. absurd (early.1 (rates.early_none s (length memories₀) none long)))
       (λ no. (rw no.1.0 refl, refl))
       says.1
-  none_in_time past (sizing.Sized w all) memories₀ memories₁ long says = absurd (omega (arith, says.1.0, says.1.1.0))
+  none_in_time past (Ok sizing) memories₀ memories₁ long says = absurd (omega (arith, says.1.0, says.1.1.0))
 
 -- ---- a line that passes is true
 

@@ -33,9 +33,6 @@ memory_at_lem f n l e i p h =
     ap (λ (x : List ℕ). get_or x (i - 1) 0) e ∙ get_or-tab (λ v. f (suc v)) (n - 1) (i - 1) (omega arith) ∙ ap f back
 
 module _ (t : Tree) (tree : TreeWithin t) (sums : List ℕ) (holds : HoldsSums sums) (M : ℕ) (long : length sums ≡ M + 1) where
-  abbrev T : ℕ → ℕ
-  T = sums_in sums
-
   film : Film (sums_in sums) (sums_in sums M)
   film = film-to sums holds M long
 

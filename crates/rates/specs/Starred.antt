@@ -1,15 +1,15 @@
 -- Document 01, 'Example trees': the eight starred cases as one table.
 -- A line has a job's bytes and what one of the two questions answers to them, as its public contract has it.
-use Rattle.std.specs.Prelude.{Bool, true, false, List, [], ◌∷◌, ◌++◌, ◌≡◌, ℕ, zero, suc, ◌-◌, ◌/◌, ◌%◌, length}
+use Rattle.std.specs.Prelude.{Bool, true, false, Result, Ok, Err, List, [], ◌∷◌, ◌++◌, ◌≡◌, ℕ, zero, suc, ◌-◌, ◌/◌, ◌%◌, length}
 use Rattle.job.specs.Tree.{plan_length}
 use Rattle.job.specs.Bytes.{job_of}
 use Rattle.planner.specs.Answer as planner
 use Rattle.planner.specs.Answer.{Answers}
-use Rattle.planner.specs.declared.Answer.{Answer}
-use Rattle.planner.specs.declared.Answer.TheVariants as answer
+use Rattle.planner.specs.declared.Planned.{Planned}
+use Rattle.planner.specs.declared.Refusal as planner_refusal
 use Rattle.rates.specs.Answer.{Sizes, number_of, delay_of, total_of}
 use Rattle.rates.specs.declared.Sizing.{Sizing}
-use Rattle.rates.specs.declared.Sizing.TheVariants as sizing
+use Rattle.rates.specs.declared.Refusal.{Refusal}
 
 -- ---- jobs as bytes
 
@@ -93,25 +93,25 @@ table =
 
 -- ---- what a line says
 
-abbrev pub plan_filled : Answer → List ℕ → List ℕ → List (List ℕ)
-plan_filled (answer.Refused e) peaks plan = []
-plan_filled (answer.Planned last all) peaks plan = peaks ∷ plan ∷ []
+abbrev pub plan_filled : Result Planned planner_refusal.Refusal → List ℕ → List ℕ → List (List ℕ)
+plan_filled (Err e) peaks plan = []
+plan_filled (Ok planned) peaks plan = peaks ∷ plan ∷ []
 
-abbrev pub memories_filled : Sizing → List ℕ → List (List ℕ)
-memories_filled (sizing.Refused e) memories = []
-memories_filled (sizing.Sized w all) memories = memories ∷ []
+abbrev pub memories_filled : Result Sizing Refusal → List ℕ → List (List ℕ)
+memories_filled (Err e) memories = []
+memories_filled (Ok sizing) memories = memories ∷ []
 
 -- whatever the memory question answers by its contract, lent outputs of the right length, has these values and has filled these numbers
 abbrev pub MemorySays : List ℕ → List ℕ → List (List ℕ) → Type 0
 MemorySays s values filled =
-    (a : Answer) (plan₀ plan₁ peaks₀ peaks₁ : List ℕ) → length plan₀ ≡ plan_length (job_of s) → length peaks₀ ≡ (job_of s).tree.n - 1
+    (a : Result Planned planner_refusal.Refusal) (plan₀ plan₁ peaks₀ peaks₁ : List ℕ) → length plan₀ ≡ plan_length (job_of s) → length peaks₀ ≡ (job_of s).tree.n - 1
     → Answers a s plan₀ plan₁ peaks₀ peaks₁
     → (planner.number_of a ∷ planner.last_of a ∷ planner.total_of a ∷ [] ≡ values) × (plan_filled a peaks₁ plan₁ ≡ filled)
 
 -- and the rate question likewise
 abbrev pub RateSays : List ℕ → List ℕ → List (List ℕ) → Type 0
 RateSays s values filled =
-    (a : Sizing) (memories₀ memories₁ : List ℕ) → length memories₀ ≡ (job_of s).tree.n - 1 → Sizes a s memories₀ memories₁
+    (a : Result Sizing Refusal) (memories₀ memories₁ : List ℕ) → length memories₀ ≡ (job_of s).tree.n - 1 → Sizes a s memories₀ memories₁
     → (number_of a ∷ delay_of a ∷ total_of a ∷ [] ≡ values) × (memories_filled a memories₁ ≡ filled)
 
 abbrev pub Says : Bool → List ℕ → List ℕ → List (List ℕ) → Type 0

@@ -1,5 +1,5 @@
 -- What the rate question's inner functions are handed and give.
-use Rattle.std.specs.Prelude.{true, cond, List, ◌≡◌, ℕ, suc, ◌-◌, ◌≤◌, ◌<◌, get_or}
+use Rattle.std.specs.Prelude.{true, cond, Result, Ok, Err, List, ◌≡◌, ℕ, suc, ◌-◌, ◌≤◌, ◌<◌, get_or}
 use Rattle.base.specs.Table.{tab}
 use Rattle.job.specs.Limits.{most_nodes, longest_delay, greatest_total}
 use Rattle.job.specs.Tree.{Tree, link}
@@ -7,11 +7,11 @@ use Rattle.job.specs.Read.{tree_in}
 use Rattle.job.specs.Sums.{sums_in}
 use Rattle.job.specs.declared.Job.{Job}
 use Rattle.smoothing.specs.Choice.{handed, ask, chosen}
-use Rattle.pacing.specs.Pace.{no_delay}
 use Rattle.writing.specs.PutBack.{memories_in}
 use Rattle.rates.specs.Rates.{total, floor_rate, least_rate, start_delay, memory}
 use Rattle.rates.specs.declared.Sizing.{Sizing}
-use Rattle.rates.specs.declared.Sizing.TheVariants.{Refused, Sized}
+use Rattle.rates.specs.declared.Refusal.{Refusal}
+use Rattle.rates.specs.declared.Refusal.TheVariants.{NoDelay}
 
 -- of n nodes f at the place of each link, elsewhere z
 abbrev pub on_links : ℕ → (ℕ → ℕ) → ℕ → List ℕ
@@ -37,11 +37,12 @@ memory_by t needs = chosen t.n t.parent (λ i. get_or needs i 0)
 
 -- What the work on a job gives, with the sums of its film: no delay up to the longest and nothing changed, or the delay, the memories and
 -- their total.
-unfoldable pub Worked : Sizing → Job → List ℕ → List ℕ → List ℕ → Type 0
-Worked (Refused e) job sums memories₀ memories₁ =
-    (e ≡ no_delay) × ((longest_delay < start_delay (tree_in job) job.frames (sums_in sums)) × (memories₁ ≡ memories₀))
-Worked (Sized w all) job sums memories₀ memories₁ =
+unfoldable pub Worked : Result Sizing Refusal → Job → List ℕ → List ℕ → List ℕ → Type 0
+Worked (Err e) job sums memories₀ memories₁ =
+    (e ≡ NoDelay) × ((longest_delay < start_delay (tree_in job) job.frames (sums_in sums)) × (memories₁ ≡ memories₀))
+Worked (Ok sizing) job sums memories₀ memories₁ =
     let t = tree_in job in
-    (w ≤ longest_delay)
-    × ((w ≡ start_delay t job.frames (sums_in sums))
-    × ((memories₁ ≡ tab (λ i. memory t job.frames (sums_in sums) w (suc i)) (t.n - 1)) × (all ≡ total t (memories_in memories₁))))
+    (sizing.delay ≤ longest_delay)
+    × ((sizing.delay ≡ start_delay t job.frames (sums_in sums))
+    × ((memories₁ ≡ tab (λ i. memory t job.frames (sums_in sums) sizing.delay (suc i)) (t.n - 1))
+    × (sizing.total ≡ total t (memories_in memories₁))))

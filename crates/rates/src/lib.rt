@@ -7,64 +7,85 @@ ghost use Rattle.std.specs.Prelude.{true, ◌≡◌, suc, ◌+◌, ◌-◌, ◌�
 ghost use Rattle.base.specs.Range.{fold, two_least};
 ghost use Rattle.base.specs.Set.{has, word_bits};
 ghost use Rattle.base.specs.Table.{tab};
-ghost use Rattle.job.specs.Tree.{TreeWithin, link};
+ghost use Rattle.job.specs.Tree.{link};
 ghost use Rattle.job.specs.Read.{tree_in, Accepted};
-ghost use Rattle.job.specs.Sums.{sums_of, WithSums};
+ghost use Rattle.job.specs.Sums.{sums_of, long_room};
 ghost use Rattle.rates.specs.Rates.{total, floor_rate, least_rate};
-ghost use Rattle.rates.specs.Answer.{Sizes};
+ghost use Rattle.rates.specs.Answer.{number, Sizes};
+ghost use Rattle.rates.specs.declared.Refusal.TheVariants.{Job as OfJob};
 ghost use Rattle.rates.specs.Work.{floors_of, NeedsWithin, handed_by, memory_by, Worked};
 
-use job::{Job, Node};
+use job::{Film, Job, Node};
 
-// The answer of the rate question: a refusal by its number, or w and the total.
-#[derive(Clone, Copy)]
-pub enum Sizing {
-    Refused(u64),
-    Sized(u64, u64),
+// The delay that is found, and the total of the memories.
+#[derive(Clone, Copy, Debug, PartialEq, Eq)]
+pub struct Sizing {
+    pub delay: u64,
+    pub total: u64,
+}
+
+// Why none is found: the job or what is lent is refused, or no delay up to the longest is in time.
+#[derive(Clone, Copy, Debug, PartialEq, Eq)]
+pub enum Refusal {
+    Job(job::Refusal),
+    NoDelay,
+}
+
+impl From<job::Refusal> for Refusal {
+    ghost from_gives = { λ refusal r. r ≡ OfJob refusal };
+
+    fn from(refusal: job::Refusal) -> Refusal {
+        Refusal::Job(refusal)
+    }
+}
+
+// Document 01's number.
+impl From<Refusal> for u64 {
+    ghost from_gives = { λ refusal n. n ≡ number refusal };
+
+    fn from(refusal: Refusal) -> u64 {
+        match refusal {
+            Refusal::Job(refusal) => u64::from(refusal),
+            Refusal::NoDelay => pacing::NO_DELAY,
+        }
+    }
 }
 
 // The least of a start and the numbers at the members of a set.
 fn least_of(set: u64, start: u64, numbers: &[u64; Job::MOST_NODES]) -> u64
     ensures { result ≡ fold (λ g i. min g (get_or numbers.now i 0)) start (has set) word_bits }
 {
-    let mut acc = start;
-    let mut rest = set;
-    while rest != 0 {
-        acc = base::min(acc, numbers[base::lowest(rest)]);
-        rest = base::without_lowest(rest);
+    let mut least = start;
+    for i in base::members(set) {
+        least = least.min(numbers[i]);
     }
-    acc
+    least
 }
 
 // The least rate among a node's own link and those below it.
-fn floor_rate(job: Job, i: usize) -> u64
-    requires { TreeWithin (tree_in job) × (link job.nodes i ≡ true) }
-    ensures { result ≡ floor_rate (tree_in job) i }
+fn floor_rate(film: Film, i: usize) -> u64
+    requires { link film.job.now.nodes i ≡ true }
+    ensures { result ≡ floor_rate (tree_in film.entry.job.now) i }
 {
-    let rate = job.rate;
-    least_of(base::with(job.below(i), i), Node::GREATEST_RATE, &rate)
+    let nodes = base::with(film.job.below(i), i);
+    least_of(nodes, Node::GREATEST_RATE, &film.job.rate)
 }
 
 // The least rate of all: every link's node is below the root.
-fn least_rate(job: Job) -> u64
-    requires { TreeWithin (tree_in job) }
-    ensures { result ≡ least_rate (tree_in job) }
+fn least_rate(film: Film) -> u64
+    ensures { result ≡ least_rate (tree_in film.entry.job.now) }
 {
-    let rate = job.rate;
-    least_of(job.below(0), Node::GREATEST_RATE, &rate)
+    least_of(film.job.below(0), Node::GREATEST_RATE, &film.job.rate)
 }
 
 // The floor rate of each node at its place; elsewhere the least rate of all, at which a need is found anyway.
-fn floor_rates(job: Job, least: u64) -> [u64; Job::MOST_NODES]
-    requires { TreeWithin (tree_in job) × (least ≡ least_rate (tree_in job)) }
-    ensures { result ≡ floors_of (tree_in job) }
+fn floor_rates(film: Film, least: u64) -> [u64; Job::MOST_NODES]
+    requires { least ≡ least_rate (tree_in film.job.now) }
+    ensures { result ≡ floors_of (tree_in film.entry.job.now) }
 {
-    let nodes = job.nodes;
     let mut floors = [least; Job::MOST_NODES];
-    let mut i = 1;
-    while i < nodes {
-        floors[i] = floor_rate(job, i);
-        i += 1;
+    for i in 1..film.job.nodes {
+        floors[i] = floor_rate(film, i);
     }
     floors
 }
@@ -75,22 +96,19 @@ fn second_least_of(set: u64, start: u64, numbers: &[u64; Job::MOST_NODES]) -> u6
 {
     let mut least = start;
     let mut second = start;
-    let mut rest = set;
-    while rest != 0 {
-        let next = numbers[base::lowest(rest)];
-        second = base::min(second, base::max(least, next));
-        least = base::min(least, next);
-        rest = base::without_lowest(rest);
+    for i in base::members(set) {
+        let next = numbers[i];
+        second = second.min(least.max(next));
+        least = least.min(next);
     }
     second
 }
 
 // What a node hands on to its children of what it is asked for.
-fn handed_on(job: Job, needs: &[u64; Job::MOST_NODES], i: usize, asked: u64) -> u64
-    requires { TreeWithin (tree_in job) }
-    ensures { result ≡ handed_by (tree_in job) needs.now i asked }
+fn handed_on(film: Film, needs: &[u64; Job::MOST_NODES], i: usize, asked: u64) -> u64
+    ensures { result ≡ handed_by (tree_in film.entry.job.now) needs.now i asked }
 {
-    let children = job.children(i);
+    let children = film.job.children(i);
     let count = base::count(children);
     if count == 0 {
         return 0;
@@ -102,94 +120,80 @@ fn handed_on(job: Job, needs: &[u64; Job::MOST_NODES], i: usize, asked: u64) -> 
 }
 
 // All memories from the needs, and their total: from the root down, as what a node is asked for hangs on what its parent hands on.
-fn fill(job: Job, needs: &[u64; Job::MOST_NODES], memories: &mut [u64]) -> u64
-    requires { TreeWithin (tree_in job) × (NeedsWithin (tree_in job) needs.now × (length memories.old ≡ job.nodes - 1)) }
-    ensures memories { memories.new ≡ tab (λ i. memory_by (tree_in job) needs.now (suc i)) (job.nodes - 1) }
-    ensures total { result ≡ total (tree_in job) (memory_by (tree_in job) needs.now) }
+fn fill(film: Film, needs: &[u64; Job::MOST_NODES], memories: &mut [u64]) -> u64
+    requires needs { NeedsWithin (tree_in film.job.now) needs.now }
+    requires memories_len { length memories.old ≡ film.job.now.nodes - 1 }
+    ensures memories { memories.new ≡ tab (λ i. memory_by (tree_in film.entry.job.now) needs.now (suc i)) (film.entry.job.now.nodes - 1) }
+    ensures total { result ≡ total (tree_in film.entry.job.now) (memory_by (tree_in film.entry.job.now) needs.now) }
 {
-    let links = job.nodes - 1;
-    let parent = job.parent;
     let mut handed = [0u64; Job::MOST_NODES];
     let mut all = 0;
-    let mut i = 0;
-    while i < links {
+    for (i, place) in memories.iter_mut().enumerate() {
         let node = i + 1;
-        let above = parent[node];
-        let asked = base::max(needs[node], handed[above]);
-        let onward = handed_on(job, needs, node, asked);
+        let above = film.job.parent[node];
+        let asked = needs[node].max(handed[above]);
+        let onward = handed_on(film, needs, node, asked);
         handed[node] = onward;
         let memory = asked - onward;
-        memories[i] = memory;
+        *place = memory;
         all += memory;
-        i += 1;
     }
     all
 }
 
-// The work on an accepted job, with its sums and room for the places of passes over them.
-fn with_sums(job: Job, sums: &[u64], places: &mut [u64], memories: &mut [u64]) -> Sizing
-    requires with_sums { WithSums job sums.now × (length sums.now ≤ length places.old) }
-    requires memories_len { length memories.old ≡ job.nodes - 1 }
-    ensures { Worked result job sums.now memories.old memories.new }
+// The work on a job within the limits, with the sums of its film and room for the places of passes over them.
+fn with_sums(film: Film, places: &mut [u64], memories: &mut [u64]) -> Result<Sizing, Refusal>
+    requires room { length film.sums.t.now ≤ length places.old }
+    requires memories_len { length memories.old ≡ film.job.now.nodes - 1 }
+    ensures { Worked result film.entry.job.now film.entry.sums.t.now memories.old memories.new }
 {
-    let least = least_rate(job);
-    let w = pacing::start_delay(sums, least);
-    if w > Node::LONGEST_DELAY as u64 {
-        return Sizing::Refused(pacing::NO_DELAY);
-    }
-    let floors = floor_rates(job, least);
-    let needs = pacing::needs(sums, &floors, places);
-    let all = fill(job, &needs, memories);
-    Sizing::Sized(w, all)
+    let least = least_rate(film);
+    let Some(delay) = pacing::start_delay(film.sums, least) else {
+        return Err(Refusal::NoDelay);
+    };
+    let floors = floor_rates(film, least);
+    let needs = pacing::needs(film.sums, &floors, places);
+    let total = fill(film, &needs, memories);
+    Ok(Sizing { delay, total })
 }
 
-// The work on an accepted job, with room for its sums and for places.
-fn with_rooms(
+// The same on an accepted job whose film has fewer frames than rooms for its sums and for places have places.
+fn with_rooms<const ROOM: usize>(
     bytes: &[u8],
-    job: Job,
-    room: &mut [u64],
-    places: &mut [u64],
+    job: &Job,
     memories: &mut [u64],
-) -> Sizing
-    requires accepted { Accepted bytes.now job × (length memories.old ≡ job.nodes - 1) }
-    requires frames_in_bounds { (job.frames < length room.old) × (job.frames < length places.old) }
-    ensures { Worked result job (sums_of bytes.now) memories.old memories.new }
+) -> Result<Sizing, Refusal>
+    requires accepted { Accepted bytes.now job.now × (length memories.old ≡ job.now.nodes - 1) }
+    requires room { (job.now.frames < ROOM) × (ROOM ≤ long_room) }
+    ensures { Worked result job.now (sums_of bytes.now) memories.old memories.new }
 {
-    let sums = job::sums(bytes, job, room);
-    with_sums(job, sums, places, memories)
+    let mut room = job::room::<ROOM>();
+    let mut places = job::room::<ROOM>();
+    let film = Film::read(bytes, job, &mut room);
+    with_sums(film, &mut places, memories)
 }
 
-// The work on an accepted job, in rooms for films of its length: to clear those for the longest takes longer than a short film's answer.
-fn with_job(bytes: &[u8], job: Job, memories: &mut [u64]) -> Sizing
-    requires { Accepted bytes.now job × (length memories.old ≡ job.nodes - 1) }
-    ensures { Worked result job (sums_of bytes.now) memories.old memories.new }
+// The same on an accepted job: it chooses the rooms, as to clear those for the longest film takes longer than a short film's answer.
+fn with_job(bytes: &[u8], job: &Job, memories: &mut [u64]) -> Result<Sizing, Refusal>
+    requires { Accepted bytes.now job.now × (length memories.old ≡ job.now.nodes - 1) }
+    ensures { Worked result job.now (sums_of bytes.now) memories.old memories.new }
 {
     if job.frames < job::SHORT_ROOM {
-        let mut room = job::short_room();
-        let mut places = job::short_room();
-        return with_rooms(bytes, job, &mut room, &mut places, memories);
+        with_rooms::<{ job::SHORT_ROOM }>(bytes, job, memories)
+    } else if job.frames < job::MIDDLE_ROOM {
+        with_rooms::<{ job::MIDDLE_ROOM }>(bytes, job, memories)
+    } else {
+        with_rooms::<{ job::LONG_ROOM }>(bytes, job, memories)
     }
-    if job.frames < job::MIDDLE_ROOM {
-        let mut room = job::middle_room();
-        let mut places = job::middle_room();
-        return with_rooms(bytes, job, &mut room, &mut places, memories);
-    }
-    let mut room = job::long_room();
-    let mut places = job::long_room();
-    with_rooms(bytes, job, &mut room, &mut places, memories)
 }
 
 // The rate question.
-pub fn rate_question(bytes: &[u8], memories: &mut [u64]) -> Sizing
+pub fn rate_question(bytes: &[u8], memories: &mut [u64]) -> Result<Sizing, Refusal>
     ensures { Sizes result bytes.now memories.old memories.new }
 {
-    let read = job::read(bytes);
-    if read.refusal != 0 {
-        return Sizing::Refused(read.refusal);
-    }
-    let job = read.job;
+    let job = job::read(bytes)?;
     if memories.len() != job.nodes - 1 {
-        return Sizing::Refused(Job::BAD_LENT);
+        return Err(Refusal::Job(job::Refusal::BadLent));
     }
-    with_job(bytes, job, memories)
+    with_job(bytes, &job, memories)
 }

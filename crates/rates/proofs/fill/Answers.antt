@@ -8,9 +8,9 @@ use lib.ListN.{length, get_or, set}
 use Rattle.base.specs.Range.{sum_over}
 use Rattle.base.specs.Table.{Filled}
 use Rattle.base.proofs.RangeLaws.{sum_over-take}
-use Rattle.base.proofs.TableLaws.{filled_none, filled_more, filled-done}
+use Rattle.base.proofs.TableLaws.{filled_none, filled_more}
 use Rattle.job.specs.Limits.{most_nodes, greatest_total}
-use Rattle.job.specs.Tree.{Tree, link}
+use Rattle.job.specs.Tree.{Tree, TreeWithin, link}
 use Rattle.job.specs.Read.{tree_in}
 use Rattle.job.proofs.TreeLaws.{link_is}
 use Rattle.smoothing.specs.Choice.{chosen}
@@ -20,12 +20,13 @@ use Rattle.rates.specs.Work.{on_links, ask_by, memory_by}
 use Rattle.rates.proofs.LinkLaws.{links_none, links_more}
 use Rattle.rates.proofs.WalkLaws.{onward, asked_next, memory-small}
 use Rattle.rates.proofs.fill.Goals as goal
-use Rattle.rates.proofs.fill.Goals.{After-handed_on-onward, After-max-arg-1}
+use Rattle.rates.proofs.fill.Goals.{After-handed_on-onward}
 
 stored : (f : ℕ → ℕ) (k : ℕ) (l p : List ℕ) (x : ℕ) → Filled f k l p → k < length l → x ≡ f k → Filled f (k + 1) l (set p k x)
 stored f k l p x so inside is = rw is (filled_more f k l p so inside)
 
-handed_next : (f : ℕ → ℕ) (k : ℕ) (l : List ℕ) (x : ℕ) → l ≡ on_links k f 0 → 0 < k → k < most_nodes → x ≡ f k → set l k x ≡ on_links (k + 1) f 0
+handed_next : (f : ℕ → ℕ) (k : ℕ) (l : List ℕ) (x : ℕ) → l ≡ on_links k f 0 → 0 < k → k < most_nodes → x ≡ f k
+    → set l k x ≡ on_links (k + 1) f 0
 handed_next f k l x so some inside is = rw (so, is) (links_more f 0 k some inside)
 
 -- and one added to a sum
@@ -37,7 +38,7 @@ summed p f k all x so is passes =
 
 module _ (c : After-handed_on-onward) where
   abbrev t : Tree
-  t = tree_in c.args.job
+  t = tree_in c.args.film.job.now
 
   abbrev needs_then : List ℕ
   needs_then = c.args.needs.now
@@ -46,13 +47,13 @@ module _ (c : After-handed_on-onward) where
   i = c.loop-i.i
 
   next_link : link t.n (suc i) ≡ true
-  next_link = link_is t.n (suc i) (omega arith) (omega (arith, c.loop-i-test.true, c.requires.0.nodes_from))
+  next_link = link_is t.n (suc i) (omega arith) (omega (arith, c.loop-i-test.true, c.args.film.with_sums.tree.nodes_from))
 
   asked_is : c.max-asked.result ≡ ask_by t needs_then (suc i)
   asked_is =
       let next : i + 1 ≡ suc i = omega arith in
       rw (c.loop-i.invariant.1.0, next) at c.max-asked.ensures
-      ∙ asked_next t c.requires.0 needs_then (suc i) next_link
+      ∙ asked_next t c.args.film.with_sums.tree needs_then (suc i) next_link
 
   onward_is : c.handed_on-onward.result ≡ onward t needs_then (suc i)
   onward_is =
@@ -68,30 +69,23 @@ module _ (c : After-handed_on-onward) where
       omega (arith, onward_is, asked_is, handed-under t.n t.parent (λ k. get_or needs_then k 0) (suc i) (ask_by t needs_then (suc i)))
 
   memory-under : c.max-asked.result - c.handed_on-onward.result ≤ greatest_total
-  memory-under = omega (arith, memory_is, memory-small t c.requires.0 needs_then c.requires.1.0 (suc i) next_link)
+  memory-under = omega (arith, memory_is, memory-small t c.args.film.with_sums.tree needs_then c.requires.needs (suc i) next_link)
 
 -- a parent's place is one of the array
-parent_in : (c : After-max-arg-1) → get_or c.args.job.parent (c.loop-i.i + 1) 0 < most_nodes
-parent_in c =
-    let i = c.loop-i.i in
-    let inside : i + 1 < c.args.job.nodes = omega (arith, c.loop-i-test.true, c.requires.0.nodes_from) in
-    omega (arith, inside, c.requires.0.parents (i + 1) (link_is c.args.job.nodes (i + 1) (omega arith) inside), c.requires.0.nodes_to)
+parent_in : (t : Tree) → TreeWithin t → (i : ℕ) → i < t.n - 1 → t.parent (i + 1) < most_nodes
+parent_in t within i h =
+    let inside : i + 1 < t.n = omega (arith, within.nodes_from) in
+    omega (arith, inside, within.parents (i + 1) (link_is t.n (i + 1) (omega arith) inside), within.nodes_to)
 
 pub loop-i-init : goal.loop-i-init
 unfolding sum_over link
 loop-i-init c = (filled_none _ _, (links_none _ 0, (refl, omega arith)))
 
 pub offset_bounds-handed-above : goal.offset_bounds-handed-above
-offset_bounds-handed-above c =
-    let i = c.loop-i.i in
-    let inside : i + 1 < c.args.job.nodes = omega (arith, c.loop-i-test.true, c.requires.0.nodes_from) in
-    omega (arith, inside, c.requires.0.parents (i + 1) (link_is c.args.job.nodes (i + 1) (omega arith) inside), c.requires.0.nodes_to)
+offset_bounds-handed-above c = omega (arith, parent_in _ c.args.film.with_sums.tree c.loop-i.i (omega (arith, c.loop-i-test.true)))
 
 pub bounds-handed-above : goal.bounds-handed-above
-bounds-handed-above c =
-    let i = c.loop-i.i in
-    let inside : i + 1 < c.args.job.nodes = omega (arith, c.loop-i-test.true, c.requires.0.nodes_from) in
-    omega (arith, inside, c.requires.0.parents (i + 1) (link_is c.args.job.nodes (i + 1) (omega arith) inside), c.requires.0.nodes_to)
+bounds-handed-above c = parent_in _ c.args.film.with_sums.tree c.loop-i.i (omega (arith, c.loop-i-test.true))
 
 pub overflow_sub-memory : goal.overflow_sub-memory
 overflow_sub-memory c = onward-under c
@@ -103,7 +97,7 @@ overflow_add-all c =
       memory-under (goal.at.overflow_add-all c).After-handed_on-onward,
       c.loop-i.invariant.1.1.1,
       c.loop-i-test.true,
-      c.requires.0.nodes_to,
+      c.args.film.with_sums.tree.nodes_to,
     )
 
 pub loop-i-preserved : goal.loop-i-preserved
@@ -112,9 +106,9 @@ loop-i-preserved c =
     let s = c.loop-i in
     let taken = c.loop-i-test.true in
     let next : i w + 1 ≡ suc (i w) = omega arith in (
-      stored _ (i w) _ _ _ s.invariant.0 (omega (arith, taken, c.requires.1.1)) (memory_is w),
+      stored _ (i w) _ _ _ s.invariant.0 (omega (arith, taken, c.requires.memories_len)) (memory_is w),
       (
-        handed_next _ (i w + 1) _ _ s.invariant.1.0 (omega arith) (omega (arith, taken, c.requires.0.nodes_to))
+        handed_next _ (i w + 1) _ _ s.invariant.1.0 (omega arith) (omega (arith, taken, c.args.film.with_sums.tree.nodes_to))
             (onward_is w ∙ ap (onward (t w) (needs_then w)) (sym next)),
         (
           summed (link (t w).n) (memory_by (t w) (needs_then w)) (i w) _ _ s.invariant.1.1.0 (memory_is w) (next_link w),
@@ -123,11 +117,9 @@ loop-i-preserved c =
       ),
     )
 
-pub returns : goal.returns
+pub returns-clause-total : goal.returns-clause-total
 unfolding total
-returns c =
-    let ends : suc c.loop-i.i ≡ c.args.job.nodes =
-    omega (arith, c.loop-i-test.false, c.loop-i.invariant.0.0, c.requires.1.1, c.requires.0.nodes_from) in record {
-      memories = rw c.requires.1.1 at (filled-done _ c.loop-i.i _ _ c.loop-i.invariant.0 (omega (arith, ends, c.requires.1.1)));
-      total = rw ends at c.loop-i.invariant.1.1.0;
-    }
+returns-clause-total c =
+    let ends : suc c.loop-i.i ≡ c.args.film.job.now.nodes =
+    omega (arith, c.loop-i-test.false, c.loop-i.invariant.0.0, c.requires.memories_len, c.args.film.with_sums.tree.nodes_from) in
+    rw ends at c.loop-i.invariant.1.1.0

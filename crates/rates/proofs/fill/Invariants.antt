@@ -1,6 +1,5 @@
 use mathlib.Core.Path.{◌≡◌}
-use Prim.Native.Nat.{suc, ◌+◌, ◌-◌, ◌*◌, ◌≤◌}
-use lib.ListN.{length}
+use Prim.Native.Nat.{suc, ◌+◌, ◌*◌, ◌≤◌}
 use Rattle.base.specs.Range.{sum_over}
 use Rattle.base.specs.Table.{Filled}
 use Rattle.job.specs.Limits.{greatest_total}
@@ -12,9 +11,7 @@ use Rattle.rates.proofs.fill.Given as goal
 
 abbrev pub invariant-loop-i : goal.invariant-loop-i
 invariant-loop-i l =
-    Filled (λ k. memory_by (tree_in l.job) l.needs (suc k)) l.i l.initial.memories l.memories
-    × ((l.handed ≡ on_links (l.i + 1) (onward (tree_in l.job) l.needs) 0)
-    × ((l.all ≡ sum_over (link l.job.nodes) (memory_by (tree_in l.job) l.needs) (suc l.i)) × (l.all ≤ l.i * greatest_total)))
-
-abbrev pub decreases-loop-i : goal.decreases-loop-i
-decreases-loop-i l = length l.initial.memories - l.i
+    let t = tree_in l.film.job.now in
+    Filled (λ k. memory_by t l.needs (suc k)) l.i l.initial.memories l.memories
+    × ((l.handed ≡ on_links (l.i + 1) (onward t l.needs) 0)
+    × ((l.all ≡ sum_over (link t.n) (memory_by t l.needs) (suc l.i)) × (l.all ≤ l.i * greatest_total)))

@@ -11,6 +11,6 @@ pub returns : goal.returns
 returns c =
     let i = c.args.i in
     c.least_of.ensures
-    ∙ floor_walk (tree_in c.args.job) c.requires.0 c.with.result i c.requires.1
-    (λ k. c.with.ensures k
+    ∙ floor_walk (tree_in c.args.film.job.now) c.args.film.with_sums.tree c.with-nodes.result i c.requires
+    (λ k. c.with-nodes.ensures k
     ∙ ap (λ (b : Bool). b || (eqb k i && ltb k word_bits)) (c.below.ensures k))

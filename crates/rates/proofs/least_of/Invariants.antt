@@ -1,10 +1,13 @@
-use Prim.Native.Nat.{min}
+-- What is left, taken into what there is, is the whole.
+use mathlib.Core.Path.{◌≡◌}
+use Prim.Native.Nat.{ℕ, min}
 use lib.ListN.{get_or}
-use Rattle.base.proofs.WalkLaws.{Walked}
+use Rattle.std.specs.List.{fold}
+use Rattle.base.specs.Set.{members}
+use Rattle.base.specs.Walk.{walk_left}
 use Rattle.rates.proofs.least_of.Given as goal
 
-abbrev pub invariant-loop-rest : goal.invariant-loop-rest
-invariant-loop-rest l = Walked (λ g i. min g (get_or l.numbers i 0)) l.start l.set l.rest l.acc
-
-abbrev pub decreases-loop-rest : goal.decreases-loop-rest
-decreases-loop-rest l = l.rest
+abbrev pub invariant-loop-i : goal.invariant-loop-i
+invariant-loop-i l =
+    let step : ℕ → ℕ → ℕ = λ g i. min g (get_or l.numbers i 0) in
+    fold step l.least (walk_left l.i-iterator) ≡ fold step l.start (members l.set)

@@ -5,5 +5,5 @@ use Rattle.rates.proofs.WalkLaws.{least_walk}
 use Rattle.rates.proofs.least_rate.Goals as goal
 
 pub returns : goal.returns
-returns c = c.least_of.ensures ∙ least_walk (tree_in c.args.job)
-    c.requires c.below.result c.below.ensures
+returns c = c.least_of.ensures ∙ least_walk (tree_in c.args.film.job.now)
+    c.args.film.with_sums.tree c.below.result c.below.ensures

@@ -1,11 +1,14 @@
+-- What is left, taken into what there is, is the whole.
+use mathlib.Core.Path.{◌≡◌}
+use Prim.Native.Nat.{ℕ}
 use lib.ListN.{get_or}
+use Rattle.std.specs.List.{fold}
 use Rattle.base.specs.Range.{two_least}
-use Rattle.base.proofs.WalkLaws.{Walked}
+use Rattle.base.specs.Set.{members}
+use Rattle.base.specs.Walk.{walk_left}
 use Rattle.rates.proofs.second_least_of.Given as goal
 
-abbrev pub invariant-loop-rest : goal.invariant-loop-rest
-invariant-loop-rest l =
-    Walked (two_least (λ i. get_or l.numbers i 0)) (l.start, l.start) l.set l.rest (l.least, l.second)
-
-abbrev pub decreases-loop-rest : goal.decreases-loop-rest
-decreases-loop-rest l = l.rest
+abbrev pub invariant-loop-i : goal.invariant-loop-i
+invariant-loop-i l =
+    let step : ℕ × ℕ → ℕ → ℕ × ℕ = two_least (λ i. get_or l.numbers i 0) in
+    fold step (l.least, l.second) (walk_left l.i-iterator) ≡ fold step (l.start, l.start) (members l.set)

@@ -5,63 +5,59 @@ use Prim.Native.Nat.{◌-◌}
 use lib.ListN.{length}
 use Rattle.job.specs.Read.{tree_in}
 use Rattle.job.specs.Sums.{sums_in}
-use Rattle.pacing.proofs.DelayLaws.{film_sums}
+use Rattle.pacing.specs.Pace.{delay_at}
 use Rattle.rates.specs.Rates.{start_delay}
 use Rattle.rates.specs.Work.{Worked}
 use Rattle.rates.proofs.FloorLaws.{least-rate-fits, floors_fit}
 use Rattle.rates.proofs.WorkLaws.{needs_of, needs_right, memories_by, total_by}
 use Rattle.rates.proofs.with_sums.Goals as goal
-use Rattle.rates.proofs.with_sums.Goals.{After-needs-needs, After-start_delay-w}
+use Rattle.rates.proofs.with_sums.Goals.{After-needs-needs, After-start_delay}
 
 -- the delay found is the defined one
-delay_is : (c : After-start_delay-w) → c.start_delay-w.result ≡ start_delay (tree_in c.args.job) c.args.job.frames (sums_in c.args.sums.now)
+delay_is : (c : After-start_delay) → let sums = c.args.film.sums.t.now in
+    let job = c.args.film.job.now in
+    delay_at c.least_rate-least.result (length sums - 1) (sums_in sums) ≡ start_delay (tree_in job) job.frames (sums_in sums)
 unfolding start_delay
 delay_is c =
-    let ends : length c.args.sums.now - 1 ≡ c.args.job.frames = omega (arith, c.requires.with_sums.0.long) in
-    rw (c.least_rate-least.ensures, ends) at c.start_delay-w.ensures
+    let ends : length c.args.film.sums.t.now - 1 ≡ c.args.film.job.now.frames = omega (arith, c.args.film.with_sums.long) in
+    rw (c.least_rate-least.ensures, ends) refl
 
-pub start_delay-w-requires : goal.start_delay-w-requires
-start_delay-w-requires c =
-    let with = c.requires.with_sums.0 in (
-      film_sums _ _ with,
-      omega (arith, c.least_rate-least.ensures, least-rate-fits (tree_in c.args.job) with.tree),
-    )
+pub start_delay-requires : goal.start_delay-requires
+start_delay-requires c =
+    omega (arith, c.least_rate-least.ensures, least-rate-fits (tree_in c.args.film.job.now) c.args.film.with_sums.tree)
 
-pub returns-then-w : goal.returns-then-w
+pub returns-in_default : goal.returns-in_default
 unfolding Worked
-returns-then-w c = (refl, (omega (arith, c.if-w.true, delay_is (goal.at.returns-then-w c).After-start_delay-w), refl))
+returns-in_default c =
+    (refl, (omega (arith, c.in_default.ensures, delay_is (goal.at.returns-in_default c).After-start_delay), refl))
 
 pub needs-needs-requires : goal.needs-needs-requires
 needs-needs-requires c =
-    let with = c.requires.with_sums.0 in (
-      record { film = film_sums _ _ with; room = c.requires.with_sums.1 },
-      rw c.floor_rates-floors.ensures (floors_fit (tree_in c.args.job) with.tree),
-    )
+    (c.requires.room, rw c.floor_rates-floors.ensures (floors_fit (tree_in c.args.film.job.now) c.args.film.with_sums.tree))
 
 -- the needs that are found are those of the nodes
-needs_are : (c : After-needs-needs) → c.needs-needs.result ≡ needs_of (tree_in c.args.job) c.args.sums.now
+needs_are : (c : After-needs-needs) → c.needs-needs.result ≡ needs_of (tree_in c.args.film.job.now) c.args.film.sums.t.now
 needs_are c = rw c.floor_rates-floors.ensures at c.needs-needs.ensures
 
-pub fill-all-requires : goal.fill-all-requires
-fill-all-requires c =
-    let with = c.requires.with_sums.0 in
-    let right = needs_right (tree_in c.args.job) with.tree c.args.sums.now with.film c.args.job.frames
-    with.long in
-    (with.tree, (rw (needs_are (goal.at.fill-all-requires c).After-needs-needs) right, c.requires.memories_len))
+pub fill-total-requires-clause-needs : goal.fill-total-requires-clause-needs
+fill-total-requires-clause-needs c =
+    let film = c.args.film in
+    rw (needs_are (goal.at.fill-total-requires-clause-needs c).After-needs-needs)
+    (needs_right (tree_in film.job.now) film.with_sums.tree film.sums.t.now film.with_sums.film film.job.now.frames film.with_sums.long)
 
 pub returns : goal.returns
 unfolding Worked
 returns c =
-    let with = c.requires.with_sums.0 in
-    let t = tree_in c.args.job in
-    let sums = c.args.sums.now in
-    let M = c.args.job.frames in
+    let with = c.args.film.with_sums in
+    let t = tree_in c.args.film.job.now in
+    let sums = c.args.film.sums.t.now in
+    let M = c.args.film.job.now.frames in
     let are = needs_are (goal.at.returns c).After-needs-needs in
-    let filled = rw are at c.fill-all.ensures.memories in
-    let all = rw are at c.fill-all.ensures.total in (
-      omega (arith, c.if-w.false),
+    let filled = rw are at c.fill-total.ensures.memories in
+    let all = rw are at c.fill-total.ensures.total in (
+      c.in-Some.ensures.1,
       (
-        delay_is (goal.at.returns c).After-start_delay-w,
+        c.in-Some.ensures.0 ∙ delay_is (goal.at.returns c).After-start_delay,
         (
           filled ∙ memories_by t with.tree sums with.film M with.long _,
           omega (arith, all ∙ total_by t with.tree sums with.film M with.long _ filled),

@@ -13,12 +13,12 @@ use Rattle.job.specs.Limits.{longest_delay}
 use Rattle.job.specs.Tree.{JobData, T}
 use Rattle.job.specs.Bytes.{frame_count, job_of}
 use Rattle.job.specs.Refusal.{bad_lent, refusal}
-use Rattle.job.specs.Steps.{or_else}
 use Rattle.job.specs.Sums.{sums_in, sums_of}
 use Rattle.job.proofs.RefusalLaws.{or_else_second}
 use Rattle.job.proofs.SumsLaws.{sums_of_lem}
 use Rattle.pacing.specs.Pace.{delay_at, no_delay}
 use Rattle.radio.specs.Radio.{memory_at, line_with, line_of, lines_of, lines_for}
+use Rattle.std.specs.Prelude.{Ok}
 use Rattle.radio.specs.Answer.{most_rates, bad_rates, line_length, lent_refusal, LineSays, Answers}
 use Rattle.radio.proofs.ServeLaws.{least, none-serves}
 
@@ -112,15 +112,11 @@ lines_are s rates =
 -- ---- what is answered
 
 module _ (s rates lines₀ : List ℕ) where
-  pub refused : (r : ℕ) → (r ≡ 0 → ⊥) → r ≡ or_else (refusal s) (lent_refusal (length rates) (length lines₀))
-      → Answers s rates lines₀ r lines₀
-  refused r ne is = record { number = is; lines = rw (ne_eqb r 0 ne) refl; each = λ z. absurd (ne z) }
-
   pub answered : (lines₁ : List ℕ) → refusal s ≡ 0 → lent_refusal (length rates) (length lines₀) ≡ 0 → lines₁ ≡ lines_for (job_of s) rates
-      → Answers s rates lines₀ 0 lines₁
+      → Answers s rates lines₀ (Ok tt) lines₁
   answered lines₁ none fits are =
       record {
-        number = sym (or_else_second (refusal s) _ none ∙ fits);
+        number_is = sym (or_else_second (refusal s) _ none ∙ fits);
         lines = are;
         each = λ z. lines_say (job_of s) rates lines₁ are;
       }

@@ -71,7 +71,8 @@ module _ (sums : List ℕ) (holds : HoldsSums sums) where
   pub film : Film (sums_in sums) (sums_in sums M)
   film = film-to sums holds M (omega (arith, holds.some_sum))
 
-  pub total_is : get_or sums M 0 ≡ sums_in sums M
+  pub total_is : last_in sums ≡ sums_in sums M
+  unfolding last_in
   total_is = sum_at sums M (omega (arith, holds.some_sum))
 
   -- ---- the greatest excess of what is carried over what is played
@@ -82,15 +83,15 @@ module _ (sums : List ℕ) (holds : HoldsSums sums) where
 
     -- a slot more
     pub excess_more : (m : ℕ) → m < length sums
-        → max (excess_before sums r d m) (carried (get_or sums M 0) r (d + m) - get_or sums m 0) ≡ excess_before sums r d (m + 1)
-    unfolding greatest last_in
+        → max (excess_before sums r d m) (carried (last_in sums) r (d + m) - get_or sums m 0) ≡ excess_before sums r d (m + 1)
+    unfolding greatest
     excess_more m h = rw (add-one, sum_at sums m h) refl
 
     -- a stretch of slots, by the last of which no more is carried than would raise it at the first
     pub excess_stretch : (m to : ℕ) → m < to → to ≤ length sums
-        → carried (get_or sums M 0) r (d + (to - 1)) - get_or sums m 0 ≤ excess_before sums r d m
+        → carried (last_in sums) r (d + (to - 1)) - get_or sums m 0 ≤ excess_before sums r d m
         → excess_before sums r d m ≡ excess_before sums r d to
-    unfolding last_in ahead
+    unfolding ahead
     excess_stretch m to some inside h =
         omega (
           arith,
@@ -103,14 +104,14 @@ module _ (sums : List ℕ) (holds : HoldsSums sums) where
                 h,
                 sum_at sums m (omega arith),
                 film.grows m i q,
-                carried-grows (get_or sums M 0) r (d + i) (d + (to - 1)) (omega arith),
+                carried-grows (last_in sums) r (d + i) (d + (to - 1)) (omega arith),
               ))
               (lt_or_le i m)),
         )
 
     -- until slot d nothing is played, so no slot before it has a greater excess
     pub excess_all : (m : ℕ) → m ≡ length sums → excess_before sums r d m ≡ memory_at M (sums_in sums) r d
-    unfolding memory_at ahead last_in
+    unfolding memory_at ahead
     excess_all m e =
         let row = carried (sums_in sums M) r in
         let played : ℕ → ℕ = λ k. sums_in sums (k - d) in

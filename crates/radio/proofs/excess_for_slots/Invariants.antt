@@ -1,10 +1,6 @@
 use mathlib.Core.Path.{◌≡◌}
-use Prim.Native.Nat.{◌-◌, ◌≤◌}
 use Rattle.radio.specs.Work.{excess_before}
 use Rattle.radio.proofs.excess_for_slots.Given as goal
 
-abbrev pub invariant-loop-m : goal.invariant-loop-m
-invariant-loop-m l = (l.m ≤ l.to) × (l.excess ≡ excess_before l.sums l.r l.d l.m)
-
-abbrev pub decreases-loop-m : goal.decreases-loop-m
-decreases-loop-m l = l.to - l.m
+abbrev pub invariant-loop-i : goal.invariant-loop-i
+invariant-loop-i l = l.excess ≡ excess_before l.sums.t.now l.r l.d l.i

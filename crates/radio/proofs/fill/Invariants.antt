@@ -1,6 +1,6 @@
 use mathlib.Core.List.{List, ◌++◌}
 use mathlib.Core.Path.{◌≡◌}
-use Prim.Native.Nat.{ℕ, ◌-◌, ◌*◌, ◌≤◌}
+use Prim.Native.Nat.{ℕ, ◌-◌, ◌*◌}
 use lib.ListN.{length, get_or, drop}
 use Rattle.base.specs.Table.{rows_of}
 use Rattle.job.specs.Sums.{sums_in}
@@ -13,9 +13,4 @@ abbrev pub rows : List ℕ → List ℕ → ℕ → List ℕ
 rows sums rates i = line_of (length sums - 1) (sums_in sums) (get_or rates i 0)
 
 abbrev pub invariant-loop-i : goal.invariant-loop-i
-invariant-loop-i l =
-    (l.i ≤ length l.rates)
-    × ((l.start ≡ l.i * line_length) × ((length l.lines ≡ length l.initial.lines) × (l.lines ≡ rows_of (rows l.sums l.rates) l.i ++ drop l.start l.initial.lines)))
-
-abbrev pub decreases-loop-i : goal.decreases-loop-i
-decreases-loop-i l = length l.rates - l.i
+invariant-loop-i l = l.lines ≡ rows_of (rows l.sums.t.now l.rates) l.i ++ drop (l.i * line_length) l.initial.lines

@@ -1,22 +1,28 @@
 -- The numbers of an answer, as C has them, and a running tree as lent numbers.
-use Rattle.std.specs.Prelude.{List, ◌≡◌, ℕ, zero, suc, ◌+◌, length, get_or}
+use Rattle.std.specs.Prelude.{cond, List, Option, Some, None, Result, Ok, Err, ◌≡◌, ℕ, zero, suc, ◌+◌, eqb, length, get_or}
 use Rattle.base.specs.Table.{tab}
 use Rattle.job.specs.Limits.{most_nodes}
-use Rattle.job.specs.declared.Limits.{Limits}
-use Rattle.job.specs.Refusal.{bad_lent, refusal}
+use Rattle.job.specs.Bytes.{job_of}
+use Rattle.job.specs.Read.{sizes_of}
+use Rattle.job.specs.Refusal.{bad_lent, number, refusal}
 use Rattle.job.specs.Steps.{or_else}
-use Rattle.planner.specs.Answer.{number_of, last_of, total_of}
-use Rattle.planner.specs.declared.Answer.{Answer}
+use Rattle.job.specs.declared.Limits.{Limits}
+use Rattle.job.specs.declared.Refusal.{Refusal}
+use Rattle.job.specs.declared.Sizes.{Sizes}
+use Rattle.planner.specs.Answer as planner
+use Rattle.planner.specs.declared.Planned.{Planned}
+use Rattle.planner.specs.declared.Refusal as plan
 use Rattle.planner.specs.declared.Place.{Place}
 use Rattle.rates.specs.Answer as rates
 use Rattle.rates.specs.declared.Sizing.{Sizing}
+use Rattle.rates.specs.declared.Refusal as sizes
 use Rattle.radio.specs.Answer.{most_rates, line_length}
 use Rattle.store.specs.Store.{most_children}
 use Rattle.running.specs.Running as running
-use Rattle.running.specs.Running.{Stepped}
+use Rattle.running.specs.Running.{Outcome, Stepped}
 use Rattle.running.specs.declared.Running.{Running}
-use Rattle.running.specs.declared.Outcome.{Outcome}
 use Rattle.relay_c.specs.declared.LibraryLimits.{LibraryLimits}
+use Rattle.relay_c.specs.declared.JobSizes.{JobSizes}
 use Rattle.relay_c.specs.declared.MemoryAnswer.{MemoryAnswer}
 use Rattle.relay_c.specs.declared.Row.{Row}
 use Rattle.relay_c.specs.declared.RateAnswer.{RateAnswer}
@@ -48,13 +54,34 @@ limit_numbers x =
       most_children = most_children;
     }
 
-abbrev pub memory_numbers : Answer → MemoryAnswer
-memory_numbers a = record { number = number_of a; last_slot = last_of a; total = total_of a }
+-- document 01's number where a job's refusals alone refuse; 0 where none does
+abbrev pub number_of : {A : Type 0} → Result A Refusal → ℕ
+number_of (Ok x) = 0
+number_of (Err e) = number e
 
-abbrev pub row_numbers : Place → Row
-row_numbers p = record { start = p.start; slots = p.slots }
+-- a job's sizes, or the refusal and zeros
+abbrev pub size_numbers : Result Sizes Refusal → JobSizes
+size_numbers (Ok x) =
+    record { number = 0; nodes = x.nodes; frames = x.frames; last_slot = x.last_slot; plan_length = x.plan_length }
+size_numbers (Err e) = record { number = number e; nodes = 0; frames = 0; last_slot = 0; plan_length = 0 }
 
-abbrev pub rate_numbers : Sizing → RateAnswer
+-- those of the job that any bytes say: n, M, H and the plan's length; or the refusal, and each is 0
+abbrev pub job_sizes : List ℕ → JobSizes
+job_sizes s =
+    let x = sizes_of (job_of s) in
+    cond (eqb (refusal s) 0)
+    (record { number = 0; nodes = x.nodes; frames = x.frames; last_slot = x.last_slot; plan_length = x.plan_length })
+    (record { number = refusal s; nodes = 0; frames = 0; last_slot = 0; plan_length = 0 })
+
+abbrev pub memory_numbers : Result Planned plan.Refusal → MemoryAnswer
+memory_numbers a = record { number = planner.number_of a; last_slot = planner.last_of a; total = planner.total_of a }
+
+-- where a row lies, or 0 twice
+abbrev pub row_numbers : Option Place → Row
+row_numbers (Some p) = record { start = p.start; slots = p.slots }
+row_numbers None = record { start = 0; slots = 0 }
+
+abbrev pub rate_numbers : Result Sizing sizes.Refusal → RateAnswer
 rate_numbers a = record { number = rates.number_of a; delay = rates.delay_of a; total = rates.total_of a }
 
 abbrev pub step_numbers : Outcome → StepAnswer

@@ -1,46 +1,30 @@
--- The slot is stored first; the loop keeps that places up to i hold the tree's numbers.
-use native.Mathlib.Omega.{arith}
-use mathlib.Core.List.{List, [], ◌∷◌}
-use mathlib.Core.Path.{◌≡◌, refl, ◌∙◌}
-use Prim.Native.Nat.{ℕ, suc, ◌+◌, ◌<◌}
-use lib.Seq.{get_or-set_same}
-use Rattle.base.specs.Table.{tab, Filled}
-use Rattle.base.proofs.TableLaws.{filled_more, filled-done}
+-- The slot's number, and behind it the table of what the nodes carry.
+use Rattle.std.proofs.Common.{rules, [], ◌∷◌, ◌++◌, ◌≡◌, ◌∙◌, ℕ, zero, suc, ◌-◌, ◌<◌, List, take, drop, get_or, length, arith, refl, append-nil}
+use lib.ListN.{set}
+use lib.Seq.{drop-length}
+use Rattle.base.specs.Table.{tab}
+use Rattle.base.proofs.TableLaws.{tab_of_list, tab_cong}
+use Rattle.job.specs.Limits.{most_nodes}
 use Rattle.running.specs.declared.Running.{Running}
-use Rattle.relay_c.specs.Numbers.{state_length, number_at}
-use lib.ListN.{length, get_or, set, length-set}
+use Rattle.relay_c.specs.Numbers.{number_at}
 use Rattle.relay_c.proofs.tree_into.Goals as goal
 
--- a list whose first number is f's has f's first number filled
-first-filled : (f : ℕ → ℕ) (l : List ℕ) → 0 < length l → f 0 ≡ get_or l 0 0 → Filled f 1 l l
-unfolding tab
-first-filled f [] h e = absurd (omega arith)
-first-filled f (x ∷ l) h e = (omega arith, (refl, rw e refl))
+put_behind : (x : ℕ) (l part : List ℕ) → 0 < length l
+    → take 1 (set l 0 x) ++ (part ++ drop (length (set l 0 x) - 1) (drop 1 (set l 0 x))) ≡ x ∷ part
+put_behind x [] part h = absurd (omega arith)
+put_behind x (y ∷ rest) part h =
+    let e : length (x ∷ rest) - 1 ≡ length rest = omega arith in
+    rw (e, drop-length, append-nil) refl
 
-number_next : (x : Running) (i : ℕ) → number_at x (i + 1) ≡ get_or x.carried i 0
+number_in : (tree : Running) (k : ℕ) → get_or (tree.slot ∷ tree.carried) k 0 ≡ number_at tree k
 unfolding number_at
-number_next x i = let e : i + 1 ≡ suc i = omega arith in rw e refl
+number_in tree zero = refl
+number_in tree (suc v) = refl
 
-pub loop-i-init : goal.loop-i-init
-unfolding number_at
-loop-i-init c = first-filled _ _ (omega (arith, c.requires, length-set c.args.numbers.now 0 c.args.tree.slot)) refl
-
-pub bounds-numbers-i : goal.bounds-numbers-i
-bounds-numbers-i c = omega (arith, c.loop-i.invariant.1.0, c.loop-i-test.true, c.requires, length-set c.args.numbers.now 0 c.args.tree.slot)
-
-pub loop-i-preserved : goal.loop-i-preserved
-loop-i-preserved c =
-    let i = c.loop-i.i in
-    rw (number_next _ i) at
-    (filled_more _ (i + 1) _ _ c.loop-i.invariant (omega (arith, c.loop-i-test.true, c.requires, length-set c.args.numbers.now 0 c.args.tree.slot)))
-
-pub shape_of-numbers : goal.shape_of-numbers
-shape_of-numbers c = c.loop-i.invariant.1.0 ∙ length-set c.args.numbers.now 0 c.args.tree.slot
+numbers_tab : (tree : Running) (n : ℕ) → length tree.carried ≡ n → tree.slot ∷ tree.carried ≡ tab (number_at tree) (suc n)
+numbers_tab tree n h = tab_of_list (tree.slot ∷ tree.carried) (suc n) (omega arith) ∙ tab_cong _ _ (suc n) (λ k l. number_in tree k)
 
 pub returns : goal.returns
 returns c =
-    let l = c.args.numbers.now in
-    let x = c.args.tree.slot in
-    let long : length (set l 0 x) ≡ state_length = length-set l 0 x ∙ c.requires in
-    let filled = filled-done _ (c.loop-i.i + 1) _ _ c.loop-i.invariant (omega (arith, c.loop-i-test.false, long)) in
-    rw (long, get_or-set_same l 0 x 0 (omega (arith, c.requires))) at filled
+    let e = c.copy_from_slice.ensures.after in
+    put_behind c.args.tree.slot c.args.numbers.now _ (omega arith) ∙ rw e (numbers_tab c.args.tree most_nodes (search rules))

@@ -13,8 +13,3 @@ digits_within (suc limit) n = cond (ltb n 10) (digit n ∷ []) (digits_within li
 -- n in decimal, the most significant digit first and no zero before it: a number has no more than n + 1 digits
 unfoldable pub digits : ℕ → List ℕ
 digits n = digits_within (suc n) n
-
--- the last k digits of n, with zeros in front where n has fewer
-unfoldable pub last_digits : ℕ → ℕ → List ℕ
-last_digits zero n = []
-last_digits (suc k) n = last_digits k (n / 10) ++ (digit (n % 10) ∷ [])

@@ -1,12 +1,14 @@
 -- What the program prints for each string of bytes.
-use Rattle.std.specs.Prelude.{cond, List, [], ◌++◌, ◌≡◌, ℕ, ◌-◌, ltb, eqb, length}
+use Rattle.std.specs.Prelude.{cond, List, [], ◌++◌, ◌≡◌, ℕ, ◌-◌, Result, ltb, eqb, length}
 use Rattle.job.specs.Tree.{plan_length}
 use Rattle.job.specs.Bytes.{job_of}
 use Rattle.job.specs.Refusal.{refusal}
 use Rattle.planner.specs.Answer.{Answers}
-use Rattle.planner.specs.declared.Answer.{Answer}
+use Rattle.planner.specs.declared.Planned.{Planned}
+use Rattle.planner.specs.declared.Refusal as plan
 use Rattle.rates.specs.Answer.{Sizes}
 use Rattle.rates.specs.declared.Sizing.{Sizing}
+use Rattle.rates.specs.declared.Refusal as sizes
 use Rattle.relay.specs.Text.{line, memory_text, rate_text}
 
 -- refusal 15, the program's own: a job or a plan that is too large for it
@@ -34,7 +36,7 @@ pub record MemoryLines (s text : List ℕ) : Type 0 where
   pub plan₁ : List ℕ
   pub peaks₀ : List ℕ
   pub peaks₁ : List ℕ
-  pub answer : Answer
+  pub answer : Result Planned plan.Refusal
   pub plan_long : length plan₀ ≡ plan_length (job_of s)
   pub peaks_long : length peaks₀ ≡ (job_of s).tree.n - 1
   pub answers : Answers answer s plan₀ plan₁ peaks₀ peaks₁
@@ -44,7 +46,7 @@ pub record MemoryLines (s text : List ℕ) : Type 0 where
 pub record RateLine (s text : List ℕ) : Type 0 where
   pub memories₀ : List ℕ
   pub memories₁ : List ℕ
-  pub sizing : Sizing
+  pub sizing : Result Sizing sizes.Refusal
   pub memories_long : length memories₀ ≡ (job_of s).tree.n - 1
   pub answers : Sizes sizing s memories₀ memories₁
   pub printed : text ≡ rate_text sizing memories₁

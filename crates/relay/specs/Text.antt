@@ -1,11 +1,13 @@
 -- The lines that the program prints.
-use Rattle.std.specs.Prelude.{List, [], ◌∷◌, ◌++◌, ℕ, ◌+◌, length, get_or}
+use Rattle.std.specs.Prelude.{List, [], ◌∷◌, ◌++◌, ℕ, ◌+◌, Result, Ok, Err, length, get_or}
 use Rattle.base.specs.Table.{rows_of}
+use Rattle.planner.specs.Answer as planner
 use Rattle.planner.specs.Answer.{row_of}
-use Rattle.planner.specs.declared.Answer.{Answer}
-use Rattle.planner.specs.declared.Answer.TheVariants as answer
+use Rattle.planner.specs.declared.Planned.{Planned}
+use Rattle.planner.specs.declared.Refusal as plan
+use Rattle.rates.specs.Answer as rates
 use Rattle.rates.specs.declared.Sizing.{Sizing}
-use Rattle.rates.specs.declared.Sizing.TheVariants as sizing
+use Rattle.rates.specs.declared.Refusal as sizes
 use Rattle.relay.specs.Decimal.{digits}
 
 abbrev pub space : ℕ
@@ -28,11 +30,11 @@ abbrev pub node_line : List ℕ → List ℕ → List ℕ → ℕ → List ℕ
 node_line s plan peaks i = line (i + 1) (get_or peaks i 0 ∷ row_of s plan (i + 1))
 
 -- the lines of the memory question's answer: number, H, T(M) and a line for each node; a refusal is its number alone
-unfoldable pub memory_text : Answer → List ℕ → List ℕ → List ℕ → List ℕ
-memory_text (answer.Refused e) s plan peaks = line e []
-memory_text (answer.Planned last total) s plan peaks = line 0 (last ∷ (total ∷ [])) ++ rows_of (node_line s plan peaks) (length peaks)
+unfoldable pub memory_text : Result Planned plan.Refusal → List ℕ → List ℕ → List ℕ → List ℕ
+memory_text (Err e) s plan peaks = line (planner.number e) []
+memory_text (Ok planned) s plan peaks = line 0 (planned.last_slot ∷ (planned.total ∷ [])) ++ rows_of (node_line s plan peaks) (length peaks)
 
 -- the line of the rate question's answer: number, w, total, memories; a refusal is its number alone
-unfoldable pub rate_text : Sizing → List ℕ → List ℕ
-rate_text (sizing.Refused e) memories = line e []
-rate_text (sizing.Sized w total) memories = line 0 (w ∷ (total ∷ memories))
+unfoldable pub rate_text : Result Sizing sizes.Refusal → List ℕ → List ℕ
+rate_text (Err e) memories = line (rates.number e) []
+rate_text (Ok sizing) memories = line 0 (sizing.delay ∷ (sizing.total ∷ memories))

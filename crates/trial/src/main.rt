@@ -2,172 +2,121 @@
 // and rate 0 with a frame above 0; and beside them starred cases of both questions, in the form of the program's lines.
 #![tactic(auto)]
 
-ghost use Rattle.std.specs.Prelude.{◌≡◌, ◌<◌, length};
+ghost use Rattle.std.specs.Prelude.{◌≤◌};
 
-use planner::Answer;
-use rates::Sizing;
+use std::alloc::{AllocError, Global};
 use std::io;
 use std::io::Write;
 
-// A root with n - 1 leaves under it and one frame; every field of the records and the frame is 0.
-fn star(n: u8) -> [u8; 1280]
-    ensures { 1280 ≡ length result }
-{
-    let mut job = [0u8; 1280];
-    job[0] = b'R';
-    job[1] = b'L';
-    job[2] = b'Y';
-    job[4] = 1;
-    job[5] = n;
-    job[9] = 1;
-    job
+// The first bytes of a job: mark, version, n, M.
+fn header(nodes: u8, frames: u8) -> [u8; 10] {
+    [b'R', b'L', b'Y', 0, 1, nodes, 0, 0, 0, frames]
 }
 
-// Tree Q: node 1 under the root, leaves 2 and 3 under node 1; frames 4, 10, 1; these memories, leaf 3's delay, rates 0.
-fn tree_q(one: u8, two: u8, three: u8, delay: u8) -> [u8; 79]
-    ensures { 79 ≡ length result }
-{
-    let mut job = [0u8; 79];
-    job[0] = b'R';
-    job[1] = b'L';
-    job[2] = b'Y';
-    job[4] = 1;
-    job[5] = 4;
-    job[9] = 3;
-    job[20] = one;
-    job[29] = 1;
-    job[39] = two;
-    job[48] = 1;
-    job[50] = delay;
-    job[58] = three;
-    job[70] = 4;
-    job[74] = 10;
-    job[78] = 1;
-    job
+// A node's record, with fields below 256.
+fn record(parent: u8, delay: u8, memory: u8, rate: u8) -> [u8; 19] {
+    let mut record = [0u8; 19];
+    record[0] = parent;
+    record[2] = delay;
+    record[10] = memory;
+    record[18] = rate;
+    record
 }
 
-fn number<W: Write>(out: &mut W, n: u64) -> io::Result<()> {
-    write!(out, "{n}")
+// The first `len` bytes of the job of a root with n - 1 leaves under it and one frame; every field of the records and the frame is 0.
+fn star(alloc: Global, n: u8, len: usize) -> Result<Vec<u8>, AllocError> {
+    let mut job = Vec::new(alloc);
+    job.extend_from_slice(&header(n, 1))?;
+    job.resize(len, 0)?;
+    Ok(job)
 }
 
-fn show<W: Write>(out: &mut W, name: &[u8], job: &[u8]) -> io::Result<()> {
-    out.write_all(name)?;
-    out.write_all(b": ")?;
-    number(out, job::read(job).refusal)?;
-    out.write_all(b"\n")
+// Tree Q: node 1 under the root, leaves 2 and 3 under node 1; frames 4, 10, 1; these memories and rates, and leaf 3's delay.
+fn tree_q(
+    alloc: Global,
+    memories: [u8; 3],
+    rates: [u8; 3],
+    delay: u8,
+) -> Result<Vec<u8>, AllocError> {
+    let mut job = Vec::new(alloc);
+    job.extend_from_slice(&header(4, 3))?;
+    job.extend_from_slice(&record(0, 0, memories[0], rates[0]))?;
+    job.extend_from_slice(&record(1, 0, memories[1], rates[1]))?;
+    job.extend_from_slice(&record(1, delay, memories[2], rates[2]))?;
+    job.extend_from_slice(&[0, 0, 0, 4, 0, 0, 0, 10, 0, 0, 0, 1])?;
+    Ok(job)
 }
 
-fn show_first<W: Write>(out: &mut W, name: &[u8], job: &[u8], len: usize) -> io::Result<()> {
-    if len <= job.len() {
-        return show(out, name, &job[..len]);
+// What the first `len` bytes of a star's job are refused with.
+fn show_star(out: &mut impl Write, alloc: Global, name: &str, n: u8, len: usize) -> io::Result<()> {
+    let job = star(alloc, n, len)?;
+    let number = job::read(&job).err().map_or(0, u64::from);
+    writeln!(out, "{name}: {number}")
+}
+
+fn show_row(out: &mut impl Write, row: &[u64]) -> io::Result<()> {
+    for n in row {
+        write!(out, " {n}")?;
     }
-    Ok(())
-}
-
-// The first `len` bytes of a star's job.
-fn show_star<W: Write>(out: &mut W, name: &[u8], n: u8, len: usize) -> io::Result<()> {
-    let job = star(n);
-    show_first(out, name, &job, len)
-}
-
-fn show_row<W: Write>(out: &mut W, row: &[u64]) -> io::Result<()> {
-    let mut k = 0;
-    while k < row.len() {
-        out.write_all(b" ")?;
-        number(out, row[k])?;
-        k += 1;
-    }
-    out.write_all(b"\n")
+    writeln!(out)
 }
 
 // A line for each node: node, peak, row.
-fn show_nodes<W: Write>(out: &mut W, job: &[u8], plan: &[u64], peaks: &[u64]) -> io::Result<()> {
-    let mut i = 0;
-    while i < peaks.len() {
-        number(out, i as u64 + 1)?;
-        out.write_all(b" ")?;
-        number(out, peaks[i])?;
+fn show_nodes(out: &mut impl Write, job: &[u8], plan: &[u64], peaks: &[u64]) -> io::Result<()> {
+    for (i, peak) in peaks.iter().enumerate() {
+        write!(out, "{} {peak}", i + 1)?;
         show_row(out, planner::row_of(job, plan, i + 1))?;
-        i += 1;
     }
     Ok(())
 }
 
-fn show_plan<W: Write>(
-    out: &mut W,
-    job: &[u8],
-    plan: &mut [u64],
-    peaks: &mut [u64],
-) -> io::Result<()> {
-    match planner::memory_question(job, plan, peaks) {
-        Answer::Refused(e) => {
-            number(out, e)?;
-            out.write_all(b"\n")
-        }
-        Answer::Planned(last, total) => {
-            out.write_all(b"0 ")?;
-            number(out, last)?;
-            out.write_all(b" ")?;
-            number(out, total)?;
-            out.write_all(b"\n")?;
-            show_nodes(out, job, plan, peaks)
+// Tree Q with these memories: a plan of N numbers. With leaf 3's delay 0 the slots are 0 to 3, with 1 they are 0 to 4.
+fn show_q<const N: usize>(
+    out: &mut impl Write,
+    alloc: Global,
+    memories: [u8; 3],
+    delay: u8,
+) -> io::Result<()>
+    requires { N ≤ 15 }
+{
+    let job = tree_q(alloc, memories, [0; 3], delay)?;
+    let mut plan = [0u64; N];
+    let mut peaks = [0u64; 3];
+    match planner::memory_question(&job, &mut plan, &mut peaks) {
+        Err(refusal) => writeln!(out, "{}", u64::from(refusal)),
+        Ok(planned) => {
+            writeln!(out, "0 {} {}", planned.last_slot, planned.total)?;
+            show_nodes(out, &job, &plan, &peaks)
         }
     }
 }
 
-// With leaf 3's delay 0 the slots are 0 to 3, with 1 they are 0 to 4.
-fn show_q<W: Write>(out: &mut W, one: u8, two: u8, three: u8) -> io::Result<()> {
-    let job = tree_q(one, two, three, 0);
-    let mut plan = [0u64; 12];
-    let mut peaks = [0u64; 3];
-    show_plan(out, &job, &mut plan, &mut peaks)
-}
-
-fn show_late_q<W: Write>(out: &mut W, one: u8, two: u8, three: u8) -> io::Result<()> {
-    let job = tree_q(one, two, three, 1);
-    let mut plan = [0u64; 15];
-    let mut peaks = [0u64; 3];
-    show_plan(out, &job, &mut plan, &mut peaks)
-}
-
-fn show_sizes<W: Write>(out: &mut W, job: &[u8], memories: &mut [u64]) -> io::Result<()> {
-    match rates::rate_question(job, memories) {
-        Sizing::Refused(e) => {
-            number(out, e)?;
-            out.write_all(b"\n")
-        }
-        Sizing::Sized(delay, total) => {
-            out.write_all(b"0 ")?;
-            number(out, delay)?;
-            out.write_all(b" ")?;
-            number(out, total)?;
-            show_row(out, memories)
-        }
-    }
-}
-
-// Tree Q with these rates, each in the last byte of its record.
-fn show_rated_q<W: Write>(out: &mut W, one: u8, two: u8, three: u8) -> io::Result<()> {
-    let mut job = tree_q(0, 0, 0, 0);
-    job[28] = one;
-    job[47] = two;
-    job[66] = three;
+// Tree Q with these rates.
+fn show_rated_q(out: &mut impl Write, alloc: Global, rates: [u8; 3]) -> io::Result<()> {
+    let job = tree_q(alloc, [0; 3], rates, 0)?;
     let mut memories = [0u64; 3];
-    show_sizes(out, &job, &mut memories)
+    match rates::rate_question(&job, &mut memories) {
+        Err(refusal) => writeln!(out, "{}", u64::from(refusal)),
+        Ok(sizing) => {
+            write!(out, "0 {} {}", sizing.delay, sizing.total)?;
+            show_row(out, &memories)
+        }
+    }
 }
 
 fn main(rt: HostRuntime) -> io::Result<()> {
     let out = &mut rt.stdout();
+    let alloc = rt.alloc();
     // 10 bytes, 63 records of 19 and a frame of 4: 1,211 bytes; one record more: 1,230.
-    show_star(out, b"n = 64", 64, 1211)?;
-    show_star(out, b"n = 65", 65, 1230)?;
-    show_star(out, b"length one short", 64, 1210)?;
-    show_star(out, b"length one over", 64, 1212)?;
-    show_q(out, 0, 6, 6)?;
-    show_q(out, 6, 0, 6)?;
-    show_late_q(out, 4, 0, 6)?;
-    show_late_q(out, 4, 0, 5)?;
-    show_rated_q(out, 5, 10, 4)?;
-    show_rated_q(out, 0, 0, 0)?;
-    show_rated_q(out, 5, 0, 4)
+    show_star(out, alloc, "n = 64", 64, 1211)?;
+    show_star(out, alloc, "n = 65", 65, 1230)?;
+    show_star(out, alloc, "length one short", 64, 1210)?;
+    show_star(out, alloc, "length one over", 64, 1212)?;
+    show_q::<12>(out, alloc, [0, 6, 6], 0)?;
+    show_q::<12>(out, alloc, [6, 0, 6], 0)?;
+    show_q::<15>(out, alloc, [4, 0, 6], 1)?;
+    show_q::<15>(out, alloc, [4, 0, 5], 1)?;
+    show_rated_q(out, alloc, [5, 10, 4])?;
+    show_rated_q(out, alloc, [0, 0, 0])?;
+    show_rated_q(out, alloc, [5, 0, 4])
 }

@@ -1,19 +1,18 @@
--- The two parts have room together (room-enough), and the second is added after the first (both_added).
-use native.Mathlib.Omega.{arith}
-use Rattle.relay.proofs.PrintedLaws.{room-enough, both_added}
+-- The second text stands after the first.
+use Rattle.std.proofs.Common.{◌++◌, ◌≡◌, string_bytes}
+use Rattle.relay.specs.Printed.{BothAnswers}
+use Rattle.relay.proofs.TextLaws.{text_weaker}
+use Rattle.relay.proofs.PrintedLaws.{node_some}
 use Rattle.relay.proofs.both.Goals as goal
 
-pub with_plan-at-requires : goal.with_plan-at-requires
-with_plan-at-requires c =
-    (c.requires.0, omega (arith, room-enough _ _ _ c.requires.0, c.requires.1))
-
-pub with_memories-requires : goal.with_memories-requires
-with_memories-requires c =
-    let w = c.with_plan-at in
-    ((c.requires.0.links_are, c.requires.0.links_fit), omega (arith, room-enough _ _ _ c.requires.0, w.ensures.1, w.auto.out, c.requires.1))
+pub overflow_sub-links : goal.overflow_sub-links
+overflow_sub-links c = rw c.requires.1 (node_some c.args.bytes.now c.requires.0)
 
 pub returns : goal.returns
 returns c =
-    let w = c.with_plan-at in
-    let m = c.with_memories in
-    (both_added _ _ _ _ _ w.ensures.0 m.ensures.0, omega (arith, room-enough _ _ _ c.requires.0, w.ensures.1, m.ensures.1))
+    text_weaker
+    c.format.result
+    (λ text. text ≡ string_bytes c.in_ok-memory.memory ++ string_bytes c.in_ok-rate.rate)
+    (BothAnswers c.args.bytes.now)
+    (λ text is. record { memory_lines = _; rate_line = _; memory = c.in_ok-memory.ensures; rate = c.in_ok-rate.ensures; printed = is })
+    c.format.ensures.ok

@@ -1,54 +1,42 @@
--- A refusal is its line. Where a plan is given, its rows have slots 0 to `last`, which is H, so that they fill it and their lines fit.
-use mathlib.Core.Path.{◌∙◌}
-use native.Mathlib.Omega.{arith}
-use lib.ListN.{length}
-use Rattle.relay.proofs.PrintedLaws.{nodes_fit, nodes_end}
-use Rattle.relay.proofs.TextLaws.{adds_more}
-use Rattle.relay.specs.Room.{node_room}
-use Rattle.relay.specs.Text.{memory_text}
+-- In both cases of the answer its lines are the text, and the answer's contract is handed on.
+use Rattle.std.proofs.Common.{◌≡◌, []}
+use Rattle.planner.specs.Answer as planner
+use Rattle.relay.specs.Text.{line, memory_text}
+use Rattle.relay.specs.Printed.{MemoryLines}
+use Rattle.relay.proofs.TextLaws.{text_weaker}
 use Rattle.relay.proofs.memory_lines.Goals as goal
 
-pub add_nodes-requires : goal.add_nodes-requires
-add_nodes-requires c =
-    let g = c.add_given-at in
-    let q = c.memory_question in
-    nodes_fit g.result _ _ (node_room c.args.bytes.now) (length c.args.out.now) _ g.ensures.1 (q.auto.peaks ∙ c.requires.1.0) c.requires.1.1 g.auto.out
-
-pub returns-in-Refused : goal.returns-in-Refused
+pub returns-in-Err : goal.returns-in-Err
 unfolding memory_text
-returns-in-Refused c =
-    let a = c.add_alone in
-    let q = c.memory_question in (
-      record {
-        plan₀ = c.args.plan.now;
-        plan₁ = q.new.plan;
-        peaks₀ = c.args.peaks.now;
-        peaks₁ = q.new.peaks;
-        answer = _;
-        plan_long = c.requires.0;
-        peaks_long = c.requires.1.0;
-        answers = c.in-Refused.ensures;
-        printed = a.ensures.0.1;
-      },
-      omega (arith, a.ensures.1),
-    )
+returns-in-Err c =
+    text_weaker
+    c.number_line.result
+    (λ text. text ≡ line (planner.number c.in-Err.refusal) [])
+    (MemoryLines c.args.bytes.now)
+    (λ text is. record {
+      plan₀ = c.args.plan.now;
+      plan₁ = c.memory_question.new.plan;
+      peaks₀ = c.args.peaks.now;
+      peaks₁ = c.memory_question.new.peaks;
+      answer = _;
+      plan_long = c.requires.0;
+      peaks_long = c.requires.1;
+      answers = c.in-Err.ensures;
+      printed = is;
+    })
+    (rw c.from.ensures at c.number_line.ensures)
 
-pub returns-in-Planned : goal.returns-in-Planned
+pub returns-in_ok-add_nodes-in-Ok : goal.returns-in_ok-add_nodes-in-Ok
 unfolding memory_text
-returns-in-Planned c =
-    let n = c.add_nodes in
-    let a = c.add_given-at in
-    let q = c.memory_question in (
-      record {
-        plan₀ = c.args.plan.now;
-        plan₁ = q.new.plan;
-        peaks₀ = c.args.peaks.now;
-        peaks₁ = q.new.peaks;
-        answer = _;
-        plan_long = c.requires.0;
-        peaks_long = c.requires.1.0;
-        answers = c.in-Planned.ensures;
-        printed = (adds_more c.args.out.now _ _ 0 _ _ _ _ a.ensures.0 n.ensures.adds).1;
-      },
-      nodes_end _ _ _ _ _ a.ensures.1 (q.auto.peaks ∙ c.requires.1.0) n.ensures.ends,
-    )
+returns-in_ok-add_nodes-in-Ok c =
+    record {
+      plan₀ = c.args.plan.now;
+      plan₁ = c.memory_question.new.plan;
+      peaks₀ = c.args.peaks.now;
+      peaks₁ = c.memory_question.new.peaks;
+      answer = _;
+      plan_long = c.requires.0;
+      peaks_long = c.requires.1;
+      answers = c.in-Ok.ensures;
+      printed = let a = c.in_ok-add_nodes-in-Ok.ensures in rw c.in_ok-text-in-Ok.ensures at a;
+    }

@@ -1,47 +1,41 @@
--- In both cases of the answer its line is added, and the answer's contract is handed on.
-use mathlib.Core.Path.{refl}
-use native.Mathlib.Omega.{arith}
-use Rattle.relay.specs.Text.{rate_text}
+-- In both cases of the answer its line is the text, and the answer's contract is handed on.
+use Rattle.std.proofs.Common.{◌≡◌, [], ◌∷◌}
+use Rattle.rates.specs.Answer as rates
+use Rattle.relay.specs.Text.{line, rate_text}
+use Rattle.relay.specs.Printed.{RateLine}
+use Rattle.relay.proofs.TextLaws.{text_weaker}
 use Rattle.relay.proofs.rate_line.Goals as goal
 
-pub returns-in-Refused : goal.returns-in-Refused
+pub returns-in-Err : goal.returns-in-Err
 unfolding rate_text
-returns-in-Refused c =
-    let a = c.add_alone in
-    let q = c.rate_question in (
-      record {
-        text = _;
-        line =
-            record {
-              memories₀ = c.args.memories.now;
-              memories₁ = q.new.memories;
-              sizing = _;
-              memories_long = c.requires.0;
-              answers = c.in-Refused.ensures;
-              printed = refl;
-            };
-        added = a.ensures.0;
-      },
-      omega (arith, a.ensures.1),
-    )
+returns-in-Err c =
+    text_weaker
+    c.number_line.result
+    (λ text. text ≡ line (rates.number c.in-Err.refusal) [])
+    (RateLine c.args.bytes.now)
+    (λ text is. record {
+      memories₀ = c.args.memories.now;
+      memories₁ = c.rate_question.new.memories;
+      sizing = _;
+      memories_long = c.requires;
+      answers = c.in-Err.ensures;
+      printed = is;
+    })
+    (rw c.from.ensures at c.number_line.ensures)
 
-pub returns-in-Sized : goal.returns-in-Sized
+pub returns-in-Ok : goal.returns-in-Ok
 unfolding rate_text
-returns-in-Sized c =
-    let a = c.add_given in
-    let q = c.rate_question in (
-      record {
-        text = _;
-        line =
-            record {
-              memories₀ = c.args.memories.now;
-              memories₁ = q.new.memories;
-              sizing = _;
-              memories_long = c.requires.0;
-              answers = c.in-Sized.ensures;
-              printed = refl;
-            };
-        added = a.ensures.0;
-      },
-      omega (arith, a.ensures.1, q.auto.memories, c.requires.0),
-    )
+returns-in-Ok c =
+    text_weaker
+    c.answer_line.result
+    (λ text. text ≡ line 0 (c.in-Ok.sizing.delay ∷ (c.in-Ok.sizing.total ∷ c.rate_question.new.memories)))
+    (RateLine c.args.bytes.now)
+    (λ text is. record {
+      memories₀ = c.args.memories.now;
+      memories₁ = c.rate_question.new.memories;
+      sizing = _;
+      memories_long = c.requires;
+      answers = c.in-Ok.ensures;
+      printed = is;
+    })
+    c.answer_line.ensures

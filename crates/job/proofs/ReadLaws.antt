@@ -4,7 +4,7 @@ use mathlib.Core.Path.{◌≡◌, refl, sym, ◌∙◌, fun_ext}
 use mathlib.Core.Logic.{⊎_elim}
 use Prim.Native.Nat.{ℕ, ◌+◌, ◌*◌, ◌≤◌, ◌<◌}
 use native.Mathlib.Omega.{arith}
-use lib.ListN.{length, get_or, set, replicate, length-set}
+use lib.ListN.{length, get_or, set, length-set}
 use lib.Seq.{ext_get_or, get_or-set_same, get_or-set_other}
 use Rattle.base.specs.Table.{tab}
 use Rattle.base.proofs.BoolLaws.{lt_or_le}
@@ -97,10 +97,6 @@ struct_holds t frames h =
       memory = field_back t.memory h.memories x;
       rate = field_back t.rate h.rates x;
     }
-
-pub zeros_are : tab (λ i. 0) most_nodes ≡ replicate most_nodes 0
-unfolding tab
-zeros_are = refl
 
 -- ---- places
 

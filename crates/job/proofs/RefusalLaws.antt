@@ -177,9 +177,6 @@ accepted_within s h =
 
 -- ---- what the reader returns, and where
 
-pub head_long : (s : List ℕ) → head_refusal s ≡ 0 → header_width ≤ length s
-head_long s h = ltb-false (length s) header_width (cond-first (ltb (length s) header_width) 1 _ (omega arith) h)
-
 -- the first part of the table that refuses gives the number
 pub at_head : (s : List ℕ) → (head_refusal s ≡ 0 → ⊥) → refusal s ≡ head_refusal s
 at_head s h = refusal_parts s ∙ or_else-first (head_refusal s) _ h

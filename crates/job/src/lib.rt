@@ -452,17 +452,28 @@ pub struct Film<'a> {
     ghost with_sums: { WithSums job.now sums.t.now },
 }
 
-impl<'a> Film<'a> {
-    // The film of an accepted job, its sums in a room that has place for them.
-    pub fn read(bytes: &[u8], job: &'a Job, room: &'a mut [u64]) -> Film<'a>
-        requires { Accepted bytes.now job.now × (job.now.frames < length room.old) }
-        ensures sums { result.sums.t.now ≡ sums_of bytes.now }
-        ensures job { result.job.now ≡ job.now }
+// Bytes that are accepted, with the job that they say.
+#[derive(Clone, Copy)]
+pub struct Checked<'a> {
+    pub bytes: &'a [u8],
+    pub job: &'a Job,
+    ghost accepted: { Accepted bytes.now job.now },
+}
+
+impl<'a> Checked<'a> {
+    // The job's film, its sums in a room that has place for them.
+    pub fn film(self, room: &'a mut [u64]) -> Film<'a>
+        requires { self.job.now.frames < length room.old }
+        ensures sums { result.sums.t.now ≡ sums_of self.entry.bytes.now }
+        ensures job { result.job.now ≡ self.entry.job.now }
     {
-        let count = job.frames + 1;
-        write_sums(bytes, &mut room[..count]);
+        let count = self.job.frames + 1;
+        write_sums(self.bytes, &mut room[..count]);
         let sums = Sums { t: &room[..count] };
-        Film { job, sums }
+        Film {
+            job: self.job,
+            sums,
+        }
     }
 }
 

@@ -3,7 +3,7 @@
 #![tactic(auto)]
 
 ghost use Rattle.std.specs.Prelude.{true, false, ◌≡◌, ◌-◌, length};
-ghost use Rattle.job.specs.Read.{tree_in, Accepted};
+ghost use Rattle.job.specs.Read.{tree_in};
 ghost use Rattle.job.specs.Sums.{sums_of, sums_in, last_in};
 ghost use Rattle.rows.specs.Row.{lazy_row, least_peak_of};
 ghost use Rattle.rows.specs.Search.{Searchable};
@@ -12,7 +12,7 @@ ghost use Rattle.planner.specs.Work.{Ready, OutputsFit, Starves, AllFed, problem
 ghost use Rattle.planner.specs.Answer.{number, row_place, row_of, Answers};
 ghost use Rattle.planner.specs.declared.Refusal.TheVariants.{Job as OfJob};
 
-use job::{Film, Job};
+use job::{Checked, Film, Job};
 use rows::Links;
 
 // H and T(M) of a plan that is given.
@@ -164,19 +164,13 @@ fn with_sums(film: Film, plan: &mut [u64], peaks: &mut [u64]) -> Result<Planned,
 }
 
 // The work on an accepted job.
-fn with_job(
-    bytes: &[u8],
-    job: &Job,
-    plan: &mut [u64],
-    peaks: &mut [u64],
-) -> Result<Planned, Refusal>
-    requires { Accepted bytes.now job.now × OutputsFit job.now (width_of job.now) plan.old peaks.old }
-    ensures { Worked result job.now (sums_of bytes.now) (width_of job.now)
+fn with_job(checked: Checked, plan: &mut [u64], peaks: &mut [u64]) -> Result<Planned, Refusal>
+    requires { OutputsFit checked.job.now (width_of checked.job.now) plan.old peaks.old }
+    ensures { Worked result checked.entry.job.now (sums_of checked.entry.bytes.now) (width_of checked.entry.job.now)
         plan.old plan.new peaks.old peaks.new }
 {
     let mut room = job::room::<{ job::LONG_ROOM }>();
-    let film = Film::read(bytes, job, &mut room);
-    with_sums(film, plan, peaks)
+    with_sums(checked.film(&mut room), plan, peaks)
 }
 
 // The memory question.
@@ -192,7 +186,8 @@ pub fn memory_question(
     if plan.len() != job.plan_length() || peaks.len() != job.nodes - 1 {
         return Err(Refusal::Job(job::Refusal::BadLent));
     }
-    with_job(bytes, &job, plan, peaks)
+    let checked = Checked { bytes, job: &job };
+    with_job(checked, plan, peaks)
 }
 
 // Where a row lies in a plan: its first place, and how many slots it has.

@@ -6,14 +6,13 @@
 ghost use Rattle.std.specs.Prelude.{[], ◌∷◌, ◌≡◌, ◌+◌, ◌-◌, ◌*◌, ◌≤◌, ◌<◌, length};
 ghost use Rattle.job.specs.Limits.{most_frames, longest_delay, greatest_rate};
 ghost use Rattle.job.specs.Bytes.{job_of};
-ghost use Rattle.job.specs.Read.{Accepted};
 ghost use Rattle.job.specs.Sums.{long_room, sums_in};
 ghost use Rattle.radio.specs.Radio.{carried, memory_at, line_of, lines_of, lines_for};
 ghost use Rattle.radio.specs.Work.{excess_before};
 ghost use Rattle.radio.specs.Answer.{number, number_of, line_length, lent_refusal, Answers};
 ghost use Rattle.radio.specs.declared.Refusal.TheVariants.{Job as OfJob};
 
-use job::{Film, Job, Node, Sums};
+use job::{Checked, Node, Sums};
 
 // The most rates, and how many numbers a line has.
 pub const MOST_RATES: usize = 8;
@@ -121,27 +120,28 @@ fn fill(sums: Sums, rates: &[u64], lines: &mut [u64])
 }
 
 // The work on an accepted job whose film has fewer frames than a room for its sums has places.
-fn with_room<const ROOM: usize>(bytes: &[u8], job: &Job, rates: &[u64], lines: &mut [u64])
-    requires accepted { Accepted bytes.now job.now × (length lines.old ≡ length rates.now * line_length) }
-    requires room { (job.now.frames < ROOM) × (ROOM ≤ long_room) }
-    ensures { lines.new ≡ lines_for (job_of bytes.now) rates.now }
+fn with_room<const ROOM: usize>(checked: Checked, rates: &[u64], lines: &mut [u64])
+    requires lines_len { length lines.old ≡ length rates.now * line_length }
+    requires room { (checked.job.now.frames < ROOM) × (ROOM ≤ long_room) }
+    ensures { lines.new ≡ lines_for (job_of checked.entry.bytes.now) rates.now }
 {
     let mut room = job::room::<ROOM>();
-    let film = Film::read(bytes, job, &mut room);
+    let film = checked.film(&mut room);
     fill(film.sums, rates, lines);
 }
 
 // The same on an accepted job: it chooses the room, as to clear that for the longest film takes longer than a short film's answer.
-fn with_job(bytes: &[u8], job: &Job, rates: &[u64], lines: &mut [u64])
-    requires { Accepted bytes.now job.now × (length lines.old ≡ length rates.now * line_length) }
-    ensures { lines.new ≡ lines_for (job_of bytes.now) rates.now }
+// The choice isn't made once in job: a closure for the work, which writes what is lent, would take more clauses than the branches.
+fn with_job(checked: Checked, rates: &[u64], lines: &mut [u64])
+    requires { length lines.old ≡ length rates.now * line_length }
+    ensures { lines.new ≡ lines_for (job_of checked.entry.bytes.now) rates.now }
 {
-    if job.frames < job::SHORT_ROOM {
-        with_room::<{ job::SHORT_ROOM }>(bytes, job, rates, lines)
-    } else if job.frames < job::MIDDLE_ROOM {
-        with_room::<{ job::MIDDLE_ROOM }>(bytes, job, rates, lines)
+    if checked.job.frames < job::SHORT_ROOM {
+        with_room::<{ job::SHORT_ROOM }>(checked, rates, lines)
+    } else if checked.job.frames < job::MIDDLE_ROOM {
+        with_room::<{ job::MIDDLE_ROOM }>(checked, rates, lines)
     } else {
-        with_room::<{ job::LONG_ROOM }>(bytes, job, rates, lines)
+        with_room::<{ job::LONG_ROOM }>(checked, rates, lines)
     }
 }
 
@@ -164,6 +164,7 @@ pub fn constant_rates(bytes: &[u8], rates: &[u64], lines: &mut [u64]) -> Result<
 {
     let job = job::read(bytes)?;
     check_lent(rates.len(), lines.len())?;
-    with_job(bytes, &job, rates, lines);
+    let checked = Checked { bytes, job: &job };
+    with_job(checked, rates, lines);
     Ok(())
 }

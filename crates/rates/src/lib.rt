@@ -8,14 +8,14 @@ ghost use Rattle.base.specs.Range.{fold, two_least};
 ghost use Rattle.base.specs.Set.{has, word_bits};
 ghost use Rattle.base.specs.Table.{tab};
 ghost use Rattle.job.specs.Tree.{link};
-ghost use Rattle.job.specs.Read.{tree_in, Accepted};
+ghost use Rattle.job.specs.Read.{tree_in};
 ghost use Rattle.job.specs.Sums.{sums_of, long_room};
 ghost use Rattle.rates.specs.Rates.{total, floor_rate, least_rate};
 ghost use Rattle.rates.specs.Answer.{number, Sizes};
 ghost use Rattle.rates.specs.declared.Refusal.TheVariants.{Job as OfJob};
 ghost use Rattle.rates.specs.Work.{floors_of, NeedsWithin, handed_by, memory_by, Worked};
 
-use job::{Film, Job, Node};
+use job::{Checked, Film, Job, Node};
 
 // The delay that is found, and the total of the memories.
 #[derive(Clone, Copy, Debug, PartialEq, Eq)]
@@ -158,32 +158,28 @@ fn with_sums(film: Film, places: &mut [u64], memories: &mut [u64]) -> Result<Siz
 }
 
 // The same on an accepted job whose film has fewer frames than rooms for its sums and for places have places.
-fn with_rooms<const ROOM: usize>(
-    bytes: &[u8],
-    job: &Job,
-    memories: &mut [u64],
-) -> Result<Sizing, Refusal>
-    requires accepted { Accepted bytes.now job.now × (length memories.old ≡ job.now.nodes - 1) }
-    requires room { (job.now.frames < ROOM) × (ROOM ≤ long_room) }
-    ensures { Worked result job.now (sums_of bytes.now) memories.old memories.new }
+fn with_rooms<const ROOM: usize>(checked: Checked, memories: &mut [u64]) -> Result<Sizing, Refusal>
+    requires memories_len { length memories.old ≡ checked.job.now.nodes - 1 }
+    requires room { (checked.job.now.frames < ROOM) × (ROOM ≤ long_room) }
+    ensures { Worked result checked.entry.job.now (sums_of checked.entry.bytes.now) memories.old memories.new }
 {
     let mut room = job::room::<ROOM>();
     let mut places = job::room::<ROOM>();
-    let film = Film::read(bytes, job, &mut room);
-    with_sums(film, &mut places, memories)
+    with_sums(checked.film(&mut room), &mut places, memories)
 }
 
 // The same on an accepted job: it chooses the rooms, as to clear those for the longest film takes longer than a short film's answer.
-fn with_job(bytes: &[u8], job: &Job, memories: &mut [u64]) -> Result<Sizing, Refusal>
-    requires { Accepted bytes.now job.now × (length memories.old ≡ job.now.nodes - 1) }
-    ensures { Worked result job.now (sums_of bytes.now) memories.old memories.new }
+// The choice isn't made once in job: a closure for the work, which writes what is lent, would take more clauses than the branches.
+fn with_job(checked: Checked, memories: &mut [u64]) -> Result<Sizing, Refusal>
+    requires { length memories.old ≡ checked.job.now.nodes - 1 }
+    ensures { Worked result checked.entry.job.now (sums_of checked.entry.bytes.now) memories.old memories.new }
 {
-    if job.frames < job::SHORT_ROOM {
-        with_rooms::<{ job::SHORT_ROOM }>(bytes, job, memories)
-    } else if job.frames < job::MIDDLE_ROOM {
-        with_rooms::<{ job::MIDDLE_ROOM }>(bytes, job, memories)
+    if checked.job.frames < job::SHORT_ROOM {
+        with_rooms::<{ job::SHORT_ROOM }>(checked, memories)
+    } else if checked.job.frames < job::MIDDLE_ROOM {
+        with_rooms::<{ job::MIDDLE_ROOM }>(checked, memories)
     } else {
-        with_rooms::<{ job::LONG_ROOM }>(bytes, job, memories)
+        with_rooms::<{ job::LONG_ROOM }>(checked, memories)
     }
 }
 
@@ -195,5 +191,6 @@ pub fn rate_question(bytes: &[u8], memories: &mut [u64]) -> Result<Sizing, Refus
     if memories.len() != job.nodes - 1 {
         return Err(Refusal::Job(job::Refusal::BadLent));
     }
-    with_job(bytes, &job, memories)
+    let checked = Checked { bytes, job: &job };
+    with_job(checked, memories)
 }

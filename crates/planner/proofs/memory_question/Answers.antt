@@ -58,15 +58,14 @@ returns-then-plan-plan_length c =
     ] in
     answered-early s c.args.plan.now c.args.peaks.now BadLent (sym early)
 
+pub invariant_of-checked : goal.invariant_of-checked
+invariant_of-checked c = record { accepted = accepted (goal.at.invariant_of-checked c).In_ok-job }
+
 pub with_job-requires : goal.with_job-requires
-with_job-requires c =
-    let k = goal.at.with_job-requires c in (
-      accepted k.In_ok-job,
-      record {
-        plan_long = c.if-plan-plan_length.false ∙ plan_is k.After-plan_length;
-        peaks_long = c.if-peaks-job.false;
-      },
-    )
+with_job-requires c = record {
+  plan_long = c.if-plan-plan_length.false ∙ plan_is (goal.at.with_job-requires c).After-plan_length;
+  peaks_long = c.if-peaks-job.false;
+}
 
 pub returns : goal.returns
 returns c =

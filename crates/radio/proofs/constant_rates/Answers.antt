@@ -11,11 +11,11 @@ use Rattle.radio.proofs.constant_rates.Goals.{In_ok-job}
 accepted : (c : In_ok-job) → Accepted c.args.bytes.now c.in_ok-job.job
 accepted c = read_accepts _ _ c.in_ok-job.ensures
 
+pub invariant_of-checked : goal.invariant_of-checked
+invariant_of-checked c = record { accepted = accepted (goal.at.invariant_of-checked c).In_ok-job }
+
 pub with_job-requires : goal.with_job-requires
-with_job-requires c = (
-  accepted (goal.at.with_job-requires c).In_ok-job,
-  list_fits (length c.args.rates.now) (length c.args.lines.now) (sym c.in_ok-check_lent.ensures),
-)
+with_job-requires c = list_fits (length c.args.rates.now) (length c.args.lines.now) (sym c.in_ok-check_lent.ensures)
 
 pub returns : goal.returns
 returns c =

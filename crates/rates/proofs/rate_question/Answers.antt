@@ -35,8 +35,8 @@ returns-then-memories-job c =
     sized-early c.args.bytes.now c.args.memories.now BadLent
     (sym (early_lent _ _ (accepted k).none (λ z. c.if-memories-job.true (z ∙ sym (links_is k)))))
 
-pub with_job-requires : goal.with_job-requires
-with_job-requires c = (accepted (goal.at.with_job-requires c).In_ok-job, c.if-memories-job.false)
+pub invariant_of-checked : goal.invariant_of-checked
+invariant_of-checked c = record { accepted = accepted (goal.at.invariant_of-checked c).In_ok-job }
 
 pub returns : goal.returns
 returns c =

@@ -7,15 +7,14 @@ ghost use Rattle.base.specs.Range.{fold};
 ghost use Rattle.base.specs.Set.{has, word_bits};
 ghost use Rattle.base.specs.Table.{tab};
 ghost use Rattle.job.specs.Limits.{most_nodes, most_slots};
-ghost use Rattle.job.specs.Tree.{TreeWithin};
-ghost use Rattle.job.specs.Read.{Accepted, tree_in};
+ghost use Rattle.job.specs.Read.{tree_in};
 ghost use Rattle.job.specs.Sums.{long_room, sums_in, sums_of};
 ghost use Rattle.smoothing.specs.Lists.{family_in, rows_in};
 ghost use Rattle.running.specs.Running.{progress_number, number, Stepped, start};
 ghost use Rattle.running.specs.declared.Refusal.TheVariants.{Job as OfJob};
 ghost use Rattle.running.specs.Work as work;
 
-use job::{Film, Job};
+use job::{Checked, Film, Job};
 
 // A running tree: the slot number, and what each node has been sent by then; of a fixed size, as C keeps its numbers.
 #[repr(C)]
@@ -88,61 +87,6 @@ fn strays(old: u64, new: u64, most: u64) -> bool
     new < old || most < new
 }
 
-// Whether the column of slot k breaks P2 at node i, where that is a leaf.
-fn leaf_breaks(film: Film, k: usize, column: &[u64; Job::MOST_NODES], i: usize) -> bool
-    requires { i < film.job.now.nodes }
-    ensures { result ≡ work.breaks_p2 (tree_in film.entry.job.now) (sums_in film.entry.sums.t.now) k (family_in column.now) i }
-{
-    base::member(film.job.leaves(), i)
-        && outside(
-            column[i],
-            curves::played(film.sums.t, film.job.delay[i], k),
-            film.job.memory[i],
-        )
-}
-
-// Whether the column breaks P3 between node i and its parent, where that is not the root.
-fn pair_breaks(job: &Job, column: &[u64; Job::MOST_NODES], i: usize) -> bool
-    requires { TreeWithin (tree_in job.now) × ((0 < i) × (i < job.now.nodes)) }
-    ensures { result ≡ work.breaks_p3 (tree_in job.now) (family_in column.now) i }
-{
-    let u = job.parent[i];
-    u != 0 && outside(column[u], column[i], job.memory[u])
-}
-
-// Whether the column of slot k breaks a rule on the link into node i; P3 counts on the child's link here.
-fn link_breaks(
-    film: Film,
-    k: usize,
-    carried: &[u64; Job::MOST_NODES],
-    column: &[u64; Job::MOST_NODES],
-    i: usize,
-) -> bool
-    requires { (0 < i) × (i < film.job.now.nodes) }
-    ensures { result ≡ work.breaks_at film.entry.job.now film.entry.sums.t.now k carried.now column.now i }
-{
-    strays(carried[i], column[i], film.sums.total())
-        || leaf_breaks(film, k, column, i)
-        || pair_breaks(film.job, column, i)
-}
-
-// The first link on which the column of slot k breaks a rule.
-fn first_breach(
-    film: Film,
-    k: usize,
-    carried: &[u64; Job::MOST_NODES],
-    column: &[u64; Job::MOST_NODES],
-) -> Option<usize>
-    ensures { work.Breach result film.entry.job.now film.entry.sums.t.now k carried.now column.now }
-{
-    for i in 1..film.job.nodes {
-        if link_breaks(film, k, carried, column, i) {
-            return Some(i);
-        }
-    }
-    None
-}
-
 // By how much x is ahead of the member of a set that is furthest behind.
 fn most_ahead(set: u64, x: u64, column: &[u64; Job::MOST_NODES]) -> u64
     ensures { result ≡ fold (λ g c. max g (x - get_or column.now c 0)) 0 (has set) word_bits }
@@ -154,35 +98,88 @@ fn most_ahead(set: u64, x: u64, column: &[u64; Job::MOST_NODES]) -> u64
     most
 }
 
-// The held bytes of node i at slot k.
-fn held_at(film: Film, k: usize, column: &[u64; Job::MOST_NODES], i: usize) -> u64
-    requires { i < film.job.now.nodes }
-    ensures { result ≡ work.held (tree_in film.entry.job.now) (sums_in film.entry.sums.t.now) k (family_in column.now) i }
-{
-    if base::member(film.job.leaves(), i) {
-        column[i].saturating_sub(curves::played(film.sums.t, film.job.delay[i], k))
-    } else {
-        most_ahead(film.job.children(i), column[i], column)
-    }
+// Slot k of a film: its column, and the bytes carried from the slot before.
+#[derive(Clone, Copy)]
+struct Slot<'a> {
+    film: Film<'a>,
+    k: usize,
+    carried: &'a [u64; Job::MOST_NODES],
+    column: &'a [u64; Job::MOST_NODES],
 }
 
-// Each link's bytes in the slot, and each node's held bytes, in the two rows that C lends; by i, as each turn reads several rows there.
-fn report(
-    film: Film,
-    k: usize,
-    carried: &[u64; Job::MOST_NODES],
-    column: &[u64; Job::MOST_NODES],
-    sent: &mut [u64],
-    held: &mut [u64],
-)
-    requires { work.Rows film.job.now sent.old held.old }
-    ensures sent_after { sent.new ≡ work.sent_row film.entry.job.now carried.now column.now }
-    ensures held_after { held.new ≡ work.held_row film.entry.job.now film.entry.sums.t.now k column.now }
-{
-    let links = film.job.nodes - 1;
-    for i in 0..links {
-        sent[i] = column[i + 1].saturating_sub(carried[i + 1]);
-        held[i] = held_at(film, k, column, i + 1);
+impl<'a> Slot<'a> {
+    // Whether the column breaks P2 at node i, where that is a leaf.
+    fn leaf_breaks(&self, i: usize) -> bool
+        requires { i < self.now.film.job.now.nodes }
+        ensures { result ≡ work.breaks_p2 (tree_in self.now.film.job.now) (sums_in self.now.film.sums.t.now) self.now.k
+            (family_in self.now.column.now) i }
+    {
+        base::member(self.film.job.leaves(), i)
+            && outside(
+                self.column[i],
+                curves::played(self.film.sums.t, self.film.job.delay[i], self.k),
+                self.film.job.memory[i],
+            )
+    }
+
+    // Whether the column breaks P3 between node i and its parent, where that is not the root.
+    fn pair_breaks(&self, i: usize) -> bool
+        requires { (0 < i) × (i < self.now.film.job.now.nodes) }
+        ensures { result ≡ work.breaks_p3 (tree_in self.now.film.job.now) (family_in self.now.column.now) i }
+    {
+        let u = self.film.job.parent[i];
+        u != 0 && outside(self.column[u], self.column[i], self.film.job.memory[u])
+    }
+
+    // Whether the column breaks a rule on the link into node i; P3 counts on the child's link here.
+    fn link_breaks(&self, i: usize) -> bool
+        requires { (0 < i) × (i < self.now.film.job.now.nodes) }
+        ensures { result ≡ work.breaks_at self.now.film.job.now self.now.film.sums.t.now self.now.k
+            self.now.carried.now self.now.column.now i }
+    {
+        strays(self.carried[i], self.column[i], self.film.sums.total())
+            || self.leaf_breaks(i)
+            || self.pair_breaks(i)
+    }
+
+    // The first link on which the column breaks a rule.
+    fn first_breach(&self) -> Option<usize>
+        ensures { work.Breach result self.now.film.job.now self.now.film.sums.t.now self.now.k
+            self.now.carried.now self.now.column.now }
+    {
+        for i in 1..self.film.job.nodes {
+            if self.link_breaks(i) {
+                return Some(i);
+            }
+        }
+        None
+    }
+
+    // The held bytes of node i.
+    fn held_at(&self, i: usize) -> u64
+        requires { i < self.now.film.job.now.nodes }
+        ensures { result ≡ work.held (tree_in self.now.film.job.now) (sums_in self.now.film.sums.t.now) self.now.k
+            (family_in self.now.column.now) i }
+    {
+        if base::member(self.film.job.leaves(), i) {
+            let played = curves::played(self.film.sums.t, self.film.job.delay[i], self.k);
+            self.column[i].saturating_sub(played)
+        } else {
+            most_ahead(self.film.job.children(i), self.column[i], self.column)
+        }
+    }
+
+    // Each link's bytes in the slot, and each node's held bytes, in the two rows that C lends; by i, as each turn reads several rows.
+    fn report(&self, sent: &mut [u64], held: &mut [u64])
+        requires { work.Rows self.now.film.job.now sent.old held.old }
+        ensures sent_after { sent.new ≡ work.sent_row self.now.film.job.now self.now.carried.now self.now.column.now }
+        ensures held_after { held.new ≡ work.held_row self.now.film.job.now self.now.film.sums.t.now self.now.k self.now.column.now }
+    {
+        let links = self.film.job.nodes - 1;
+        for i in 0..links {
+            sent[i] = self.column[i + 1].saturating_sub(self.carried[i + 1]);
+            held[i] = self.held_at(i + 1);
+        }
     }
 }
 
@@ -220,10 +217,16 @@ fn advance(
     let k = state.slot as usize + 1;
     let carried = state.carried;
     let column = take_column(carried, plan, film.job.nodes, width, k);
-    if let Some(i) = first_breach(film, k, &carried, &column) {
+    let slot = Slot {
+        film,
+        k,
+        carried: &carried,
+        column: &column,
+    };
+    if let Some(i) = slot.first_breach() {
         return Err(Refusal::BrokenRule(i));
     }
-    report(film, k, &carried, &column, sent, held);
+    slot.report(sent, held);
     Ok(Running {
         slot: k as u64,
         carried: column,
@@ -233,41 +236,39 @@ fn advance(
 // The same on an accepted job whose film has fewer frames than a room for its sums has places.
 fn with_room<const ROOM: usize>(
     state: Running,
-    bytes: &[u8],
-    job: &Job,
+    checked: Checked,
     plan: &[u64],
     sent: &mut [u64],
     held: &mut [u64],
 ) -> Result<Running, Refusal>
-    requires accepted { Accepted bytes.now job.now × work.Lent job.now state.slot plan.now sent.old held.old }
-    requires room { (job.now.frames < ROOM) × (ROOM ≤ long_room) }
-    ensures { work.Advanced result job.now (sums_of bytes.now) plan.now state
+    requires lent { work.Lent checked.job.now state.slot plan.now sent.old held.old }
+    requires room { (checked.job.now.frames < ROOM) × (ROOM ≤ long_room) }
+    ensures { work.Advanced result checked.entry.job.now (sums_of checked.entry.bytes.now) plan.now state
         sent.old sent.new held.old held.new }
 {
     let mut room = job::room::<ROOM>();
-    let film = Film::read(bytes, job, &mut room);
-    advance(state, film, plan, sent, held)
+    advance(state, checked.film(&mut room), plan, sent, held)
 }
 
 // The same on an accepted job: it chooses the room for the film's sums.
+// The choice isn't made once in job: a closure for the work, which writes what is lent, would take more clauses than the branches.
 fn with_job(
     state: Running,
-    bytes: &[u8],
-    job: &Job,
+    checked: Checked,
     plan: &[u64],
     sent: &mut [u64],
     held: &mut [u64],
 ) -> Result<Running, Refusal>
-    requires { Accepted bytes.now job.now × work.Lent job.now state.slot plan.now sent.old held.old }
-    ensures { work.Advanced result job.now (sums_of bytes.now) plan.now state
+    requires { work.Lent checked.job.now state.slot plan.now sent.old held.old }
+    ensures { work.Advanced result checked.entry.job.now (sums_of checked.entry.bytes.now) plan.now state
         sent.old sent.new held.old held.new }
 {
-    if job.frames < job::TINY_ROOM {
-        with_room::<{ job::TINY_ROOM }>(state, bytes, job, plan, sent, held)
-    } else if job.frames < job::MIDDLE_ROOM {
-        with_room::<{ job::MIDDLE_ROOM }>(state, bytes, job, plan, sent, held)
+    if checked.job.frames < job::TINY_ROOM {
+        with_room::<{ job::TINY_ROOM }>(state, checked, plan, sent, held)
+    } else if checked.job.frames < job::MIDDLE_ROOM {
+        with_room::<{ job::MIDDLE_ROOM }>(state, checked, plan, sent, held)
     } else {
-        with_room::<{ job::LONG_ROOM }>(state, bytes, job, plan, sent, held)
+        with_room::<{ job::LONG_ROOM }>(state, checked, plan, sent, held)
     }
 }
 
@@ -323,6 +324,7 @@ impl Running {
         if last <= self.slot {
             return Ok(None);
         }
-        Ok(Some(with_job(self, bytes, &job, plan, sent, held)?))
+        let checked = Checked { bytes, job: &job };
+        Ok(Some(with_job(self, checked, plan, sent, held)?))
     }
 }

@@ -5,5 +5,5 @@ use Rattle.running.proofs.with_room.Goals as goal
 pub room-room-requires : goal.room-room-requires
 room-room-requires g c = omega (arith, c.requires.room)
 
-pub whole_as_slice-read : goal.whole_as_slice-read
-whole_as_slice-read g c = omega (arith, c.requires.room)
+pub whole_as_slice-film : goal.whole_as_slice-film
+whole_as_slice-film g c = omega (arith, c.requires.room)

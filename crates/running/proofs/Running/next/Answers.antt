@@ -87,16 +87,17 @@ returns-then-last-self c =
     let k = goal.at.returns-then-last-self c in
     (none_early k.After-last_slot-last, (omega (arith, slot_is k.After-last_slot-last, c.if-last-self.true), (refl, (refl, refl))))
 
+pub invariant_of-checked : goal.invariant_of-checked
+invariant_of-checked c = record { accepted = accepted (goal.at.invariant_of-checked c).In_ok-job }
+
 pub with_job-requires : goal.with_job-requires
 with_job-requires c =
-    let k = goal.at.with_job-requires c in (
-      accepted k.In_ok-job,
-      record {
-        slots_left = omega (arith, width_is k.After-last_slot-last, c.if-last-self.false);
-        plan_long = c.if-plan-plan_length.false ∙ plan_is k.After-plan_length;
-        rows = record { sent_long = c.if-sent-links.false; held_long = c.if-held-links.false };
-      },
-    )
+    let k = goal.at.with_job-requires c in
+    record {
+      slots_left = omega (arith, width_is k.After-last_slot-last, c.if-last-self.false);
+      plan_long = c.if-plan-plan_length.false ∙ plan_is k.After-plan_length;
+      rows = record { sent_long = c.if-sent-links.false; held_long = c.if-held-links.false };
+    }
 
 pub returns-in_err-with_job : goal.returns-in_err-with_job
 returns-in_err-with_job c =

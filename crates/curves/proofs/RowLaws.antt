@@ -98,10 +98,6 @@ module _ (t : Tree) (sums : List ℕ) (less : ℕ) where
       let at = get_or-tab (λ k. max (get_or row k 0) (plays t (sums_in sums) l k - less)) (length row) k h in
       (omega (arith, at), omega (arith, at, small k h, sum_fits sums held (k - t.delay l)))
 
-  pub raised_length : (l : ℕ) (row : List ℕ) → length (raised_by t sums l less row) ≡ length row
-  unfolding raised_by
-  raised_length l row = length-tab _ (length row)
-
   pub all_length : (set : ℕ) (row : List ℕ) → length (raised_by_all t sums set less row) ≡ length row
   unfolding raised_by_all
   all_length set row = length-tab _ (length row)

@@ -6,7 +6,6 @@ ghost use Rattle.std.specs.Prelude.{true, ◌≡◌, ◌↔◌, IsNone, IfSome, 
 ghost use Rattle.base.specs.Set.{has};
 ghost use Rattle.base.specs.Table.{tab};
 ghost use Rattle.job.specs.Limits.{most_nodes, most_slots, greatest_memory};
-ghost use Rattle.job.specs.Tree.{TreeWithin};
 ghost use Rattle.job.specs.Read.{tree_in};
 ghost use Rattle.job.specs.Sums.{sums_in, last_in};
 ghost use Rattle.smoothing.specs.Tree.{Link};
@@ -264,24 +263,24 @@ pub fn keep_row(film: Film, c: usize, u: usize, kept: &mut [u64])
 }
 
 // The least delay of the leaves at or below node a.
-fn least_delay(job: &Job, a: usize) -> usize
-    requires { TreeWithin (tree_in job.now) × (a < job.now.nodes) }
-    ensures { result ≡ least_delay (tree_in job.now) a }
+fn least_delay(film: Film, a: usize) -> usize
+    requires { a < film.job.now.nodes }
+    ensures { result ≡ least_delay (tree_in film.entry.job.now) a }
 {
-    match earliest(job.leaves_at(a), &job.delay) {
-        Some(first) => job.delay[first],
+    match earliest(film.job.leaves_at(a), &film.job.delay) {
+        Some(first) => film.job.delay[first],
         None => 0,
     }
 }
 
 // The highest node on the way up from node i, below the root.
-fn top_above(job: &Job, i: usize) -> usize
-    requires { TreeWithin (tree_in job.now) × Link job.now.nodes i }
-    ensures { ((0 < result) × (result ≤ i)) × ((tree_in job.now).parent result ≡ 0) }
+fn top_above(film: Film, i: usize) -> usize
+    requires { Link film.job.now.nodes i }
+    ensures { ((0 < result) × (result ≤ i)) × ((tree_in film.entry.job.now).parent result ≡ 0) }
 {
     let mut a = i;
-    while job.parent[a] != 0 {
-        a = job.parent[a];
+    while film.job.parent[a] != 0 {
+        a = film.job.parent[a];
     }
     a
 }
@@ -300,7 +299,7 @@ pub fn lower_near(film: Film, v: usize, c: usize, kept: &mut [u64], out: &mut [u
         lower_row(film, v, out);
         return c;
     }
-    if least_delay(film.job, u) <= least_delay(film.job, top_above(film.job, v)) {
+    if least_delay(film, u) <= least_delay(film, top_above(film, v)) {
         lower_row(film, v, out);
         return c;
     }

@@ -6,11 +6,6 @@ use Rattle.curves.proofs.AllRowsLaws.{less_in_range, near_own}
 use native.Mathlib.Omega.{arith}
 use Rattle.curves.proofs.keep_row.Goals as goal
 
-pub returns-then-c-u : goal.returns-then-c-u
-returns-then-c-u c =
-    let same : c.args.c ≡ c.args.u = omega arith in
-    rw same at (c.requires.1.1 (omega arith))
-
 pub raise_by_leaves-requires : goal.raise_by_leaves-requires
 raise_by_leaves-requires c =
     let less = c.lessen in

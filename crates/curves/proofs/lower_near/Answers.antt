@@ -19,7 +19,7 @@ near : (c : Start) → get_or c.args.film.job.now.parent c.args.v 0 < most_nodes
 near c = omega (arith, lower c, c.requires.0, c.args.film.with_sums.tree.nodes_to)
 
 pub least_delay-requires : goal.least_delay-requires
-least_delay-requires c = (c.args.film.with_sums.tree, omega (arith, lower (goal.at.least_delay-requires c).Start, c.requires.0))
+least_delay-requires c = omega (arith, lower (goal.at.least_delay-requires c).Start, c.requires.0)
 
 pub keep_row-requires : goal.keep_row-requires
 keep_row-requires c =

@@ -1,20 +1,12 @@
 -- The loop keeps that the members that are left, taken in after those met, give the whole, and what the row has taken in.
-use mathlib.Core.Path.{refl, ◌∙◌}
+use mathlib.Core.Path.{◌∙◌}
 use Rattle.base.proofs.MemberLaws.{next_in}
 use Rattle.job.specs.Read.{tree_in}
 use Rattle.curves.proofs.RowLaws.{raised_members}
 use Rattle.curves.proofs.raise_by_each.Goals as goal
 
-pub loop-l-init : goal.loop-l-init
-loop-l-init c = (rw (c.into_iter-l-iterator.ensures.into_iter_gives, c.members-l-items.ensures) refl, c.requires)
-
 pub raise_by_leaf-least-requires-clause-node : goal.raise_by_leaf-least-requires-clause-node
 raise_by_leaf-least-requires-clause-node c = (next_in _ _ _ c.in-Some.ensures.steps).0
-
-pub loop-l-preserved : goal.loop-l-preserved
-loop-l-preserved c =
-    let r = c.raise_by_leaf-least.ensures in
-    (rw r.raised (rw c.in-Some.ensures.steps at c.loop-l.invariant.0), r.taken_after)
 
 pub returns : goal.returns
 returns c =

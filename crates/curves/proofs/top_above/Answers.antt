@@ -7,11 +7,12 @@ use Rattle.curves.proofs.top_above.Goals as goal
 pub loop-a-smaller : goal.loop-a-smaller
 loop-a-smaller c =
     let l = c.loop-a in
-    parent-lower (tree_in c.args.job.now) c.requires.0 l.a (omega (arith, l.invariant, c.requires.1))
+    parent-lower (tree_in c.args.film.job.now) c.args.film.with_sums.tree l.a (omega (arith, l.invariant, c.requires))
 
 pub loop-a-preserved : goal.loop-a-preserved
 loop-a-preserved c =
-    let l = c.loop-a in (
+    let l = c.loop-a in
+    let lower = parent-lower (tree_in c.args.film.job.now) c.args.film.with_sums.tree l.a (omega (arith, l.invariant, c.requires)) in (
       omega arith,
-      omega (arith, parent-lower (tree_in c.args.job.now) c.requires.0 l.a (omega (arith, l.invariant, c.requires.1)), l.invariant),
+      omega (arith, lower, l.invariant),
     )

@@ -1,6 +1,6 @@
 -- Laws of the counts, looked at in two parts: those of the children, and those of children that the store hasn't got.
 use mathlib.Core.Bool.{Bool, true, false, cond, ◌||◌}
-use mathlib.Core.List.{List, [], ◌∷◌, ◌++◌}
+use mathlib.Core.List.{List, ◌++◌}
 use mathlib.Core.Path.{◌≡◌, refl, ap, sym, ◌∙◌}
 use mathlib.Core.Logic.{◌⊎◌, inl, inr}
 use Prim.Native.Nat.{ℕ, zero, suc, ◌+◌, ◌-◌, ◌≤◌, ◌<◌}
@@ -14,6 +14,7 @@ use Rattle.std.specs.List.{list_any}
 use borrow.Rule.Slice.PartMut.{mid_of, put_mid, mid_len}
 use Rattle.base.specs.Range.{some, greatest}
 use Rattle.base.specs.Table.{tab}
+use Rattle.base.proofs.ListLaws.{list_any_some}
 use Rattle.base.proofs.BoolLaws.{true_or_false, or_false, lt_or_le, iff_same}
 use Rattle.base.proofs.RangeLaws.{some_cong, none_passes, which_passes, greatest-above, greatest-under}
 use Rattle.base.proofs.TableLaws.{length-tab, get_or-tab}
@@ -31,21 +32,10 @@ some-split p k (suc d) = rw (add-suc k d, some-split p k d) (assoc (some p k) _ 
     assoc true b c = refl
     assoc false b c = refl
 
--- whether an element of a list passes, by its place
-pub some_any : (p : ℕ → Bool) (l : List ℕ) → some (λ i. p (get_or l i 0)) (length l) ≡ list_any p l
-unfolding some
-some_any p [] = refl
-some_any p (x ∷ xs) =
-    let f : ℕ → Bool = λ i. p (get_or (x ∷ xs) i 0) in
-    let long : length (x ∷ xs) ≡ 1 + length xs = omega arith in
-    let rest : some (λ i. f (1 + i)) (length xs) ≡ list_any p xs =
-    some_cong _ _ (length xs) (λ i h. let e : 1 + i ≡ suc i = omega arith in rw e) ∙ some_any p xs in
-    ap (some f) long ∙ (some-split f 1 (length xs) ∙ ap (λ (b : Bool). p x || b) rest)
-
--- the same for a list that holds f 0, .., f (n - 1)
+-- whether an element of a list passes that holds f 0, .., f (n - 1)
 any_is : (p : ℕ → Bool) (l : List ℕ) (f : ℕ → ℕ) (n : ℕ) → length l ≡ n → ((i : ℕ) → i < n → get_or l i 0 ≡ f i)
     → list_any p l ≡ some (λ i. p (f i)) n
-any_is p l f n long is = sym (some_any p l) ∙ rw long (some_cong _ _ n (λ i h. rw (is i h)))
+any_is p l f n long is = list_any_some p l ∙ rw long (some_cong _ _ n (λ i h. rw (is i h)))
 
 module _ (s : Store) (counted : length s.waiting ≡ most_children) (few : s.children ≤ most_children) where
   abbrev own : List ℕ

@@ -1,5 +1,4 @@
 -- The loop keeps that r is the number in the first i bytes and less than 256 ^ i, which leaves room for a byte more.
-use mathlib.Core.Path.{◌≡◌}
 use Prim.Native.Nat.{ℕ, ◌≤◌, ◌<◌, ◌^◌}
 use native.Mathlib.Numerals.{add-one}
 use native.Mathlib.Nat.{pow-le-pow_right, pow-suc}
@@ -32,8 +31,3 @@ loop-i-preserved g c =
         rw (add-one, pow-suc) (omega arith),
       ),
     )
-
-pub returns : goal.returns
-returns g c =
-    let q : c.loop-i.i ≡ g.row.WIDTH = omega arith in
-    rw (← q) c.loop-i.invariant.1

@@ -18,6 +18,7 @@ use Rattle.base.specs.Set.{has, members, word_bits}
 use Rattle.base.proofs.BoolLaws.{true_or_false, lt_or_le, and_true, and_no_right}
 use Rattle.base.proofs.RangeLaws.{fold_skip, fold-take}
 use Rattle.base.proofs.SetLaws.{has-none, first_in, first_lt, first-first, has_cleared}
+use Rattle.base.proofs.WalkLaws.{Without}
 
 -- the numbers below n that pass, in a list
 passing : (ℕ → Bool) → ℕ → List ℕ
@@ -74,13 +75,16 @@ pub members_none : members 0 ≡ []
 unfolding fold
 members_none = fold_skip (λ l i. l ++ (i ∷ [])) [] (has 0) 0 word_bits (omega arith) (λ j a b. has-none j)
 
-pub members_next : (s : ℕ) → s < 2 ^ 64 → 0 < s → members s ≡ first (has s) word_bits ∷ members (bit_and s (s - 1))
+pub members_then : (s t : ℕ) → s < 2 ^ 64 → 0 < s → Without s t → members s ≡ first (has s) word_bits ∷ members t
 unfolding passing fold
-members_next s h some_in =
+members_then s t h some_in rest =
     let x = first (has s) word_bits in
     let e : suc x + (word_bits - suc x) ≡ word_bits = omega (arith, first_lt s h some_in) in
     rw e at
-    (first_then (has s) (has (bit_and s (s - 1))) x (first_in s h some_in) (first-first s h some_in) (has_cleared s h some_in) (word_bits - suc x))
+    (first_then (has s) (has t) x (first_in s h some_in) (first-first s h some_in) rest (word_bits - suc x))
+
+pub members_next : (s : ℕ) → s < 2 ^ 64 → 0 < s → members s ≡ first (has s) word_bits ∷ members (bit_and s (s - 1))
+members_next s h some_in = members_then s (bit_and s (s - 1)) h some_in (has_cleared s h some_in)
 
 -- what is folded over the members is folded over the numbers that are in the set
 pub fold_members : {A : Type 0} (step : A → ℕ → A) (z : A) (s : ℕ) → list.fold step z (members s) ≡ fold step z (has s) word_bits

@@ -2,10 +2,10 @@
 // knows no job.
 #![tactic(auto)]
 
-ghost use Rattle.std.specs.Prelude.{cond, not, ◌&&◌, ◌||◌, ◌≡◌, ℕ, ◌+◌, ◌^◌, ◌≤◌, ◌<◌, eqb, ltb, length};
+ghost use Rattle.std.specs.Prelude.{cond, not, ◌&&◌, ◌||◌, ◌≡◌, ℕ, ◌+◌, ◌-◌, ◌^◌, ◌≤◌, ◌<◌, eqb, ltb, length};
 ghost use Rattle.std.specs.Iterator.{YieldsFirst, item_count};
 ghost use Rattle.base.specs.Number.{number};
-ghost use Rattle.base.specs.Range.{how_many};
+ghost use Rattle.base.specs.Range.{how_many, first};
 ghost use Rattle.base.specs.Set.{has, word_bits};
 ghost use Rattle.base.specs.Walk.{walk_left};
 
@@ -29,16 +29,24 @@ pub fn copy<T: Copy>(from: &[T], to: &mut [T])
     }
 }
 
-// The big-endian number in WIDTH bytes. By hand: fields are 1, 2, 3, 4 and 8 bytes wide, and `from_be_bytes` has one width for each type.
+// The big-endian number in `width` bytes. By hand: fields are 1, 2, 3, 4 and 8 bytes wide, and `from_be_bytes` has one width for each type.
+pub fn number_at(s: &[u8], place: usize, width: usize) -> u64
+    requires { (width ≤ 8) × (place + width ≤ length s.now) }
+    ensures { (result ≡ number s.now place width) × (result < 256 ^ width) }
+{
+    let mut r = 0;
+    for i in 0..width {
+        r = r * 256 + u64::from(s[place + i]);
+    }
+    r
+}
+
+// The same of a width that is known beforehand: the loop is unrolled.
 pub fn number<const WIDTH: usize>(s: &[u8], place: usize) -> u64
     requires { (WIDTH ≤ 8) × (place + WIDTH ≤ length s.now) }
     ensures { (result ≡ number s.now place WIDTH) × (result < 256 ^ WIDTH) }
 {
-    let mut r = 0;
-    for i in 0..WIDTH {
-        r = r * 256 + u64::from(s[place + i]);
-    }
-    r
+    number_at(s, place, WIDTH)
 }
 
 // Whether i is in the set s.
@@ -82,6 +90,23 @@ pub fn count(s: u64) -> usize
     u64::count_ones(s) as usize
 }
 
+// The lowest member of s; 64 where s is empty.
+pub fn lowest(s: u64) -> usize
+    ensures { result ≡ first (has s) word_bits }
+{
+    u64::trailing_zeros(s) as usize
+}
+
+// The set s without its lowest member, by which a walk over s goes on: it is a smaller number, so the walk ends.
+pub fn without_lowest(s: u64) -> u64
+    ensures { ((j : ℕ) → has result j ≡ (has s j && not (eqb j (first (has s) word_bits)))) × (result ≤ s - 1) }
+{
+    if s == 0 {
+        return 0;
+    }
+    s & (s - 1)
+}
+
 // The members of a set, from the lowest on.
 #[derive(Clone, Copy, Debug)]
 pub struct Walk {
@@ -105,8 +130,8 @@ impl Iterator for Walk {
         if self.left == 0 {
             return None;
         }
-        let lowest = self.left.trailing_zeros() as usize;
-        self.left &= self.left - 1;
-        Some(lowest)
+        let next = lowest(self.left);
+        self.left = without_lowest(self.left);
+        Some(next)
     }
 }

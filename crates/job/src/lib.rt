@@ -2,7 +2,7 @@
 // Definitions to believe: specs/Limits, Tree, Bytes, Refusal; what the types below hold: specs/Read.
 #![tactic(auto)]
 
-ghost use Rattle.std.specs.Prelude.{◌≡◌, ℕ, ◌+◌, ◌≤◌, ◌<◌, length, get_or};
+ghost use Rattle.std.specs.Prelude.{false, ◌≡◌, ℕ, ◌+◌, ◌≤◌, ◌<◌, length, get_or};
 ghost use Rattle.base.specs.Range.{some, greatest_over};
 ghost use Rattle.base.specs.Set.{has, word_bits};
 ghost use Rattle.job.specs.Limits as limit;
@@ -348,18 +348,36 @@ fn read_nodes(s: &[u8], mut job: Job, inner: u64) -> Result<Job, Refusal>
     }
 }
 
-// Whether some frame is too large. All are looked at: the compiler doesn't put a loop that stops at the first into vectors, so that it
-// takes half as long again where none is.
+// So many frames are looked at before it is asked whether one of them was wrong: the compiler puts no loop into vectors that asks at each,
+// and that takes half as long again where none is.
+const STRETCH: usize = 256;
+
+// Whether some frame before `to` is too large, where none before m is.
+fn frame_wrong_before(s: &[u8], nodes: usize, m: usize, to: usize) -> bool
+    requires sized { Sized s.now × (nodes ≡ node_count s.now) }
+    requires frames { (m ≤ to) × (to ≤ frame_count s.now) }
+    requires before { some (λ m. frame_wrong (frame_at s.now m)) m ≡ false }
+    ensures { result ≡ some (λ m. frame_wrong (frame_at s.now m)) to }
+{
+    let at = record_place(nodes);
+    let mut wrong = false;
+    for i in m..to {
+        wrong |= Frame::new(base::number::<4>(s, at + Frame::WIDTH * i)).is_err();
+    }
+    wrong
+}
+
+// Whether some frame is too large.
 fn some_frame_wrong(s: &[u8], nodes: usize, frames: usize) -> bool
     requires { Sized s.now × ((nodes ≡ node_count s.now) × (frames ≡ frame_count s.now)) }
     ensures { result ≡ some (λ m. frame_wrong (frame_at s.now m)) (frame_count s.now) }
 {
-    let at = record_place(nodes);
-    let mut wrong = false;
-    for m in 0..frames {
-        wrong |= Frame::new(base::number::<4>(s, at + Frame::WIDTH * m)).is_err();
+    for m in (0..frames).step_by(STRETCH) {
+        if frame_wrong_before(s, nodes, m, (m + STRETCH).min(frames)) {
+            return true;
+        }
     }
-    wrong
+    false
 }
 
 // Rows 7 to 10, of a job whose counts and length are right.
@@ -461,15 +479,23 @@ pub struct Checked<'a> {
 }
 
 impl<'a> Checked<'a> {
+    // T(0) to T(M) of the job's film, in a room that has place for them: the part of it that has them.
+    pub fn sums<'b>(self, room: &'b mut [u64]) -> &'b mut [u64]
+        requires { self.job.now.frames < length room.old }
+        ensures { result.now ≡ sums_of self.entry.bytes.now }
+    {
+        let count = self.job.frames + 1;
+        write_sums(self.bytes, &mut room[..count]);
+        &mut room[..count]
+    }
+
     // The job's film, its sums in a room that has place for them.
     pub fn film(self, room: &'a mut [u64]) -> Film<'a>
         requires { self.job.now.frames < length room.old }
         ensures sums { result.sums.t.now ≡ sums_of self.entry.bytes.now }
         ensures job { result.job.now ≡ self.entry.job.now }
     {
-        let count = self.job.frames + 1;
-        write_sums(self.bytes, &mut room[..count]);
-        let sums = Sums { t: &room[..count] };
+        let sums = Sums { t: self.sums(room) };
         Film {
             job: self.job,
             sums,

@@ -1,32 +1,19 @@
--- The loop keeps whether some frame below m is too large.
-use mathlib.Core.Path.{◌≡◌, refl, ◌∙◌}
-use native.Mathlib.Numerals.{add-one}
+-- The loop keeps that no frame below m is too large, and goes on by stretches; one in a stretch is one of all.
+use mathlib.Core.Bool.{Bool, true}
+use mathlib.Core.Path.{◌≡◌, refl, sym, ◌∙◌}
+use Prim.Native.Nat.{ℕ, ◌≤◌, min}
 use native.Mathlib.Omega.{arith}
 use Rattle.base.specs.Range.{some}
-use Rattle.job.proofs.ReadLaws.{frame_in}
-use Rattle.job.proofs.RefusalLaws.{frame_refused}
-use Rattle.job.specs.Bytes.{frames_place, frame_at}
+use Rattle.base.proofs.RangeLaws.{some-passes, which_passes}
 use Rattle.job.proofs.some_frame_wrong.Goals as goal
-use Rattle.job.proofs.some_frame_wrong.Goals.{After-number, In-loop-m}
+
+some_later : (p : ℕ → Bool) (m n : ℕ) → m ≤ n → some p m ≡ true → some p n ≡ true
+some_later p m n h e = let w = which_passes p m e in some-passes p n w.0 (omega (arith, w.1, h)) w.2
 
 pub loop-m-init : goal.loop-m-init
 unfolding some
-loop-m-init c = refl
+loop-m-init c = let none : min 0 c.args.frames ≡ 0 = omega arith in rw none refl
 
--- the place that a turn reads at
-place_is : (c : In-loop-m) → c.record_place-at.result ≡ frames_place c.args.s.now
-place_is c = c.record_place-at.ensures ∙ rw c.requires.1.0 refl
-
-pub number-requires : goal.number-requires
-number-requires c =
-    omega (arith, place_is c, frame_in c.args.s.now c.requires.0 c.loop-m.m (omega (arith, c.requires.1.1)))
-
-size_is : (c : After-number) → c.number.result ≡ frame_at c.args.s.now c.loop-m.m
-unfolding frame_at
-size_is c = c.number.ensures.0 ∙ rw (place_is (goal.at.After-number c).In-loop-m) refl
-
-pub loop-m-preserved : goal.loop-m-preserved
-unfolding some
-loop-m-preserved c =
-    let test = c.is_err-wrong.ensures.value ∙ frame_refused c.new.result c.number.result _ c.new.ensures in
-    rw (add-one, c.loop-m.invariant, test, size_is (goal.at.loop-m-preserved c).After-number) refl
+pub returns-then-frame_wrong_before : goal.returns-then-frame_wrong_before
+returns-then-frame_wrong_before c =
+    sym (some_later _ c.min.result _ (omega (arith, c.min.ensures, c.requires.1.1)) (sym c.frame_wrong_before.ensures ∙ c.if-frame_wrong_before.true))

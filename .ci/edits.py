@@ -18,6 +18,7 @@ WORTHLESS = [
     (re.compile(r"^BAD EDIT: "), "it can't be tried"),
     (re.compile(REFUSED + r" \(only because a proof file names"), "a proof file has no place for the edited code"),
     (re.compile(REFUSED + r" \(only by a limit"), "the prover stopped at a limit"),
+    (re.compile(REFUSED + r": note: [^;]*; `search` gave up at one of its limits"), "the prover stopped at a limit"),
     (re.compile(REFUSED + r": (?:\./)?(?:src|specs)/[^\s:]*:\d+:\d+: error"), "the edited file itself is refused"),
 ]
 BY_A_FACT = re.compile(REFUSED + r": (?:(?:\./)?proofs/[^\s:]*:\d+:\d+: error|note: [^:]+:\d+:\d+: it is not proved)")

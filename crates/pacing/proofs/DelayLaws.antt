@@ -99,6 +99,9 @@ module _ (T r m w : ℕ) (fits : w ≤ longest_delay + 1) where
 -- ---- frame by frame
 
 module _ (T : ℕ → ℕ) (r : ℕ) where
+  pub delay_before_none : (m w : ℕ) → m ≡ 0 → w ≡ 0 → DelayBefore T r m w
+  delay_before_none m w none least = record { to = omega arith; late = λ l i h. absurd (omega arith); least = λ y a b. omega arith }
+
   pub delay_before_more : (m w x : ℕ) → DelayBefore T r m w → DelayForSlot (T m) r m w x → DelayBefore T r (m + 1) x
   delay_before_more m w x d l =
       record {

@@ -47,6 +47,8 @@ pub record SinceValleyAt (T : ℕ → ℕ) (high : ℕ) (old places : List ℕ) 
   pub rising : (u : ℕ) → u < t.last → get_or places u 0 < get_or places (suc u) 0
   pub inside : (u : ℕ) → u ≤ t.last → get_or places u 0 ≤ get_or old j 0
   pub is_lead : lead ≡ ahead_by T old high j
+  pub based : t.base ≤ lead
+  pub topped : lead ≤ t.ceiling
   pub same : (r : ℕ) → r ≤ high → ahead_by T places r t.last ≡ ahead_by T old r j
   pub most : (r : ℕ) → r ≤ high → most_by T places r t.last ≡ most_by T old r j
   pub kept : (r : ℕ) → r ≤ high → most_by T places r t.valley ≤ most_by T places r t.last
@@ -69,6 +71,8 @@ since_valley_start T high old z =
       rising = λ u h. absurd (omega arith);
       inside = λ u h. let e : u ≡ 0 = omega arith in rw e (omega arith);
       is_lead = refl;
+      based = omega arith;
+      topped = omega arith;
       same = λ r h. refl;
       most = λ r h. refl;
       kept = λ r h. omega arith;
@@ -168,6 +172,8 @@ module _ (T : ℕ → ℕ) (grows : (m k : ℕ) → m ≤ k → T m ≤ T k) (hi
         rising = put-rising T places t.last to fits at up (omega (arith, so.ends)) so.rising;
         inside = put-inside T places t.last to fits at up so.inside;
         is_lead = refl;
+        based = omega arith;
+        topped = omega arith;
         same = after_same;
         most = after_most;
         kept = λ r h. omega arith;
@@ -194,6 +200,8 @@ module _ (T : ℕ → ℕ) (grows : (m k : ℕ) → m ≤ k → T m ≤ T k) (hi
         rising = put-rising T places t.last to fits at up (omega (arith, so.ends)) so.rising;
         inside = put-inside T places t.last to fits at up so.inside;
         is_lead = refl;
+        based = omega arith;
+        topped = omega arith;
         same = after_same;
         most = after_most;
         kept = λ r h. omega (arith, most-valley r, after_most r h, most_next T r old j, so.kept r h, so.most r h);
@@ -226,6 +234,8 @@ module _ (T : ℕ → ℕ) (grows : (m k : ℕ) → m ≤ k → T m ≤ T k) (hi
         rising = put-rising T places t.valley to short at up valley_before (λ u q. so.rising u (omega (arith, so.order)));
         inside = put-inside T places t.valley to short at up (λ u q. so.inside u (omega (arith, so.order)));
         is_lead = refl;
+        based = omega arith;
+        topped = omega arith;
         same = λ r h. put-ahead_here T places t.valley to short r ∙ straight_next over r h;
         most = λ r h.
             last r

@@ -165,6 +165,7 @@ pub record SincePeakAt (T : ℕ → ℕ) (low : ℕ) (old places : List ℕ) (j 
   pub inside : (u : ℕ) → u ≤ t.last → get_or places u 0 ≤ get_or old j 0
   pub is_lead : lead ≡ ahead_by T old low j
   pub floored : t.floor ≤ lead
+  pub barred : lead ≤ t.bar
   pub slack : t.bar ≤ t.floor + t.slack
   pub top : t.bar ≤ max t.slack (ahead_by T places low t.peak)
   pub same : (r : ℕ) → low ≤ r → ahead_by T places r t.last ≡ ahead_by T old r j
@@ -185,6 +186,7 @@ since_peak-start T low slack old z =
       inside = λ u h. let e : u ≡ 0 = omega arith in rw e (omega arith);
       is_lead = refl;
       floored = omega arith;
+      barred = omega arith;
       slack = omega arith;
       top = omega arith;
       same = λ r h. refl;
@@ -301,6 +303,7 @@ module _ (T : ℕ → ℕ) (grows : (m k : ℕ) → m ≤ k → T m ≤ T k) (lo
         inside = put-inside T places t.last to fits at up so.inside;
         is_lead = refl;
         floored = omega arith;
+        barred = omega arith;
         slack = omega arith;
         top = omega (arith, after_same low (omega arith));
         same = after_same;
@@ -330,6 +333,7 @@ module _ (T : ℕ → ℕ) (grows : (m k : ℕ) → m ≤ k → T m ≤ T k) (lo
         inside = put-inside T places t.last to fits at up so.inside;
         is_lead = refl;
         floored = floored;
+        barred = omega (arith, barred, so.slack);
         slack = omega arith;
         top = rw (ahead-peak low) (omega (arith, so.top));
         same = after_same;
@@ -376,6 +380,7 @@ module _ (T : ℕ → ℕ) (grows : (m k : ℕ) → m ≤ k → T m ≤ T k) (lo
         inside = put-inside T places t.peak to short at up (λ u q. so.inside u (omega (arith, so.order)));
         is_lead = refl;
         floored = omega arith;
+        barred = omega (arith, barred);
         slack = omega arith;
         top = rw (ahead-peak low) (omega (arith, so.top));
         same = λ r l. put-ahead_here T places t.peak to short r ∙ again-at r l ∙ sym (full_on r);

@@ -4,8 +4,12 @@ use mathlib.Core.Path.{◌≡◌}
 use Prim.Native.Nat.{◌-◌, min}
 use lib.ListN.{length}
 use Rattle.job.specs.Sums.{sums_in}
-use Rattle.pacing.proofs.DelayLaws.{delay_before_is}
+use Rattle.pacing.proofs.DelayLaws.{delay_before_none, delay_before_is}
 use Rattle.pacing.proofs.start_delay.Goals as goal
+
+-- a search finds this too, but of another start it says only that it gave up
+pub loop-m-init : goal.loop-m-init
+loop-m-init c = (delay_before_none _ _ _ _ (omega arith) (omega arith), omega arith)
 
 pub returns-then-w : goal.returns-then-w
 returns-then-w c =

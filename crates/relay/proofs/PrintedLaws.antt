@@ -1,8 +1,8 @@
--- Laws of what is printed: which of the cases a job falls in, and that the bytes settle the text.
+-- Laws of what is printed: which of the cases a job falls in, that the room is enough, and that the bytes settle the text.
 use mathlib.Core.List.{List, []}
 use mathlib.Core.Path.{◌≡◌, refl, ap, sym, ◌∙◌}
 use mathlib.Core.Logic.{⊎_elim}
-use Prim.Native.Nat.{ℕ, ◌≤◌, ◌<◌}
+use Prim.Native.Nat.{ℕ, ◌+◌, ◌-◌, ◌*◌, ◌≤◌, ◌<◌}
 use native.Mathlib.Omega.{arith}
 use lib.ListN.{length}
 use borrow.Author.Tests.{lt-ltb, le-ltb, eq-eqb, ne_eqb}
@@ -10,7 +10,8 @@ use Rattle.base.proofs.BoolLaws.{lt_or_le}
 use Rattle.job.specs.Bytes.{job_of, tree_of, frame_count}
 use Rattle.job.specs.Read.{struct_of}
 use Rattle.job.specs.Refusal.{refusal}
-use Rattle.job.specs.Tree.{plan_length}
+use Rattle.job.specs.Limits.{most_nodes}
+use Rattle.job.specs.Tree.{H, plan_length}
 use Rattle.planner.specs.Rules.{Keeps}
 use Rattle.planner.specs.Answer.{early_refusal, plan_in, Answers}
 use Rattle.planner.proofs.AnswerLaws.{early_none}
@@ -25,6 +26,7 @@ use Rattle.rates.specs.declared.Refusal as sizes
 use Rattle.rates.proofs.AnswerLaws.{sizing_settled, memories_settled}
 use Rattle.relay.specs.Text.{line, memory_text, rate_text}
 use Rattle.relay.specs.Printed.{too_large, most_bytes, most_planned, job_refusal, MemoryLines, RateLine, BothAnswers, Printed}
+use Rattle.relay.specs.Room.{word_width, memory_room, rate_room, text_room}
 use Rattle.relay.specs.Taken.{number}
 use Rattle.relay.specs.declared.Refusal.{Refusal}
 use Rattle.relay.specs.declared.Refusal.TheVariants.{TooLarge, Job}
@@ -68,6 +70,38 @@ pub node_some : (s : List ℕ) → job_refusal s ≡ 0 → 1 ≤ (job_of s).tree
 node_some s h =
     let a = job.read_accepts s (struct_of (tree_of s) (frame_count s)) (taken_read s h, refl) in
     omega (arith, a.tree_within.nodes_from)
+
+-- and no more than the tree may have
+pub nodes_most : (s : List ℕ) → job_refusal s ≡ 0 → (job_of s).tree.n ≤ most_nodes
+nodes_most s h =
+    let a = job.read_accepts s (struct_of (tree_of s) (frame_count s)) (taken_read s h, refl) in
+    omega (arith, a.tree_within.nodes_to)
+
+-- and a plan that is not too large
+pub planned_most : (s : List ℕ) → job_refusal s ≡ 0 → plan_length (job_of s) ≤ most_planned
+planned_most s h =
+    ⊎_elim
+    (λ (p : most_planned < plan_length (job_of s)).
+    ⊎_elim
+    (λ (l : most_bytes < length s). absurd (omega (arith, h, refusal_long s l)))
+    (λ (l : length s ≤ most_bytes). absurd (omega (arith, h, refusal_planned s l (taken_read s h) p)))
+    (lt_or_le most_bytes (length s)))
+    (λ (p : plan_length (job_of s) ≤ most_planned). p)
+    (lt_or_le most_planned (plan_length (job_of s)))
+
+-- ---- room
+
+-- the lines of l nodes with h numbers in a row
+lines_room : (l h : ℕ) → l * (word_width * (2 + h)) ≡ word_width * 2 * l + word_width * (l * h)
+lines_room l h = omega arith
+
+-- both answers to a job that is not refused have room
+pub room_enough : (s : List ℕ) → job_refusal s ≡ 0 → memory_room s + rate_room s ≤ text_room
+unfolding plan_length
+room_enough s h =
+    omega (arith, lines_room ((job_of s).tree.n - 1) (H (job_of s) + 1), planned_most s h, nodes_most s h)
+
+-- ---- the numbers
 
 pub number_none : (e : Refusal) → number e ≡ 0 → ⊥
 number_none TooLarge h = omega arith

@@ -2,3 +2,4 @@ pub mod Decimal
 pub mod Text
 pub mod Printed
 pub mod Taken
+pub mod Room

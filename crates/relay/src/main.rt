@@ -2,21 +2,24 @@
 // says what the text is; reading and writing are thin. Definitions to believe: specs/Decimal, Text, Printed.
 #![tactic(auto)]
 
-ghost use Rattle.std.specs.Prelude.{[], ◌∷◌, ◌++◌, ◌≡◌, ◌+◌, ◌-◌, ◌≤◌, ◌<◌, length, IfOk, OnOk, string_bytes, Some, Ok, List, ℕ, take};
+ghost use Rattle.std.specs.Prelude.{[], ◌++◌, ◌≡◌, ◌+◌, ◌-◌, ◌*◌, ◌≤◌, ◌<◌, length, IfOk, OnOk, Ok, List, ℕ, take};
 ghost use Rattle.std.specs.Io.KnownBytes.{Appends, Consumes, IsAtEnd};
 ghost use Rattle.io.specs.Counts.{IsPrefixLen};
 ghost use Rattle.base.specs.Table.{rows_of};
 ghost use Rattle.job.specs.Bytes.{job_of};
 ghost use Rattle.job.specs.Tree as tree;
+ghost use Rattle.relay.specs.Decimal.{digits};
 ghost use Rattle.relay.specs.Text.{spaced, line, node_line};
+ghost use Rattle.relay.specs.Room.{most_digits, word_width, line_room, node_room, memory_room, rate_room, text_room, Adds};
 ghost use Rattle.relay.specs.Printed.{MemoryLines, RateLine, BothAnswers, Printed};
 ghost use Rattle.relay.specs.Taken.{number, Takes};
 ghost use Rattle.relay.specs.declared.Refusal.TheVariants.{Job as OfJob};
 
-use job::Sizes;
-use std::alloc::{AllocError, Global};
+use arrayvec::ArrayString;
+use itoa::Buffer;
+use job::{Job, Sizes};
+use std::io;
 use std::io::{Read, Write};
-use std::{fmt, io};
 
 // The most bytes of a job and the most numbers of a plan that are taken.
 const MOST_BYTES: usize = 32_768;
@@ -50,91 +53,103 @@ impl From<Refusal> for u64 {
     }
 }
 
+// Room for every text, at 21 characters for a number and the space or line end after it: the first line has 3 numbers, the node lines have
+// at most 4,096 and twice 63, the last has 3 and 63.
+const TEXT_ROOM: usize = 90_111;
+
+// What is printed. Its room is fixed, so that no answer fails for want of memory.
+type Text = ArrayString<TEXT_ROOM>;
+
+// Each of the next functions adds to a text, which has room for what is added.
+fn add_number(text: &mut Text, n: u64)
+    requires { length text.old.bytes + most_digits ≤ text_room }
+    ensures added { text.new.bytes ≡ text.old.bytes ++ digits n }
+    ensures long { length text.new.bytes ≤ length text.old.bytes + most_digits }
+{
+    let mut buffer = Buffer::new();
+    text.push_str(buffer.format(n));
+}
+
 // A row's numbers, each after a space.
-#[derive(Clone, Copy)]
-struct Spaced<'a>(&'a [u64]);
-
-impl fmt::Display for Spaced<'_> {
-    ghost output = { λ row. Some (spaced row.0.now) };
-
-    fn fmt<W: fmt::Write>(&self, f: &mut fmt::Formatter<W>) -> fmt::Result {
-        for &n in self.0 {
-            write!(f, " {n}")?;
-        }
-        Ok(())
+fn add_row(text: &mut Text, row: &[u64])
+    requires { length text.old.bytes + word_width * length row.now ≤ text_room }
+    ensures added { text.new.bytes ≡ text.old.bytes ++ spaced row.now }
+    ensures long { length text.new.bytes ≤ length text.old.bytes + word_width * length row.now }
+{
+    for &n in row {
+        text.push_str(" ");
+        add_number(text, n);
     }
 }
 
-// A line of one number.
-fn number_line(alloc: Global, n: u64) -> Result<String, AllocError>
-    ensures { IfOk result (λ text. string_bytes text ≡ line n []) }
+// A line: a first number, a few, and those of a row.
+fn add_line(text: &mut Text, first: u64, few: &[u64], row: &[u64])
+    requires { length text.old.bytes + line_room (length few.now + length row.now) ≤ text_room }
+    ensures added { text.new.bytes ≡ text.old.bytes ++ line first (few.now ++ row.now) }
+    ensures long { length text.new.bytes ≤ length text.old.bytes + line_room (length few.now + length row.now) }
 {
-    format!(in alloc; "{n}\n")
+    add_number(text, first);
+    add_row(text, few);
+    add_row(text, row);
+    text.push_str("\n");
 }
 
-// The line of an accepted question: 0, the two numbers that it gives, and the numbers that stand in the same line.
-fn answer_line(alloc: Global, a: u64, b: u64, row: &[u64]) -> Result<String, AllocError>
-    ensures { IfOk result (λ text. string_bytes text ≡ line 0 (a ∷ (b ∷ row.now))) }
+// The lines of all nodes: node, peak, row.
+fn add_nodes(text: &mut Text, bytes: &[u8], plan: &[u64], peaks: &[u64])
+    requires { length text.old.bytes + length peaks.now * node_room bytes.now ≤ text_room }
+    ensures added { text.new.bytes
+        ≡ text.old.bytes ++ rows_of (node_line bytes.now plan.now peaks.now) (length peaks.now) }
+    ensures long { length text.new.bytes ≤ length text.old.bytes + length peaks.now * node_room bytes.now }
 {
-    let row = Spaced(row);
-    format!(in alloc; "0 {a} {b}{row}\n")
-}
-
-// Adds the lines of all nodes: node, peak, row.
-fn add_nodes(text: &mut String, bytes: &[u8], plan: &[u64], peaks: &[u64]) -> Result<(), AllocError>
-    ensures { OnOk result (string_bytes text.new
-        ≡ string_bytes text.old ++ rows_of (node_line bytes.now plan.now peaks.now) (length peaks.now)) }
-{
-    for (i, peak) in peaks.iter().enumerate() {
-        let row = Spaced(planner::row_of(bytes, plan, i + 1));
-        writeln!(text, "{} {peak}{row}", i + 1)?;
+    for (i, &peak) in peaks.iter().enumerate() {
+        let row = planner::row_of(bytes, plan, i + 1);
+        add_line(text, i as u64 + 1, &[peak], row);
     }
-    Ok(())
 }
 
 // The memory question and its lines, with outputs of the right length.
-fn memory_lines(
-    alloc: Global,
-    bytes: &[u8],
-    plan: &mut [u64],
-    peaks: &mut [u64],
-) -> Result<String, AllocError>
-    requires { (length plan.old ≡ tree.plan_length (job_of bytes.now)) × (length peaks.old ≡ (job_of bytes.now).tree.n - 1) }
-    ensures { IfOk result (λ text. MemoryLines bytes.now (string_bytes text)) }
+fn add_memory_lines(text: &mut Text, bytes: &[u8], plan: &mut [u64], peaks: &mut [u64])
+    requires { (length plan.old ≡ tree.plan_length (job_of bytes.now)) × ((length peaks.old ≡ (job_of bytes.now).tree.n - 1)
+        × (length text.old.bytes + memory_room bytes.now ≤ text_room)) }
+    ensures added { Adds (MemoryLines bytes.now) text.old.bytes text.new.bytes }
+    ensures long { length text.new.bytes ≤ length text.old.bytes + memory_room bytes.now }
 {
     match planner::memory_question(bytes, plan, peaks) {
-        Err(refusal) => number_line(alloc, u64::from(refusal)),
+        Err(refusal) => add_line(text, u64::from(refusal), &[], &[]),
         Ok(planned) => {
-            let mut text = answer_line(alloc, planned.last_slot, planned.total, &[])?;
-            add_nodes(&mut text, bytes, plan, peaks)?;
-            Ok(text)
+            add_line(text, 0, &[planned.last_slot, planned.total], &[]);
+            add_nodes(text, bytes, plan, peaks);
         }
     }
 }
 
 // The rate question and its line, with an output of the right length.
-fn rate_line(alloc: Global, bytes: &[u8], memories: &mut [u64]) -> Result<String, AllocError>
-    requires { length memories.old ≡ (job_of bytes.now).tree.n - 1 }
-    ensures { IfOk result (λ text. RateLine bytes.now (string_bytes text)) }
+fn add_rate_line(text: &mut Text, bytes: &[u8], memories: &mut [u64])
+    requires { (length memories.old ≡ (job_of bytes.now).tree.n - 1) × (length text.old.bytes + rate_room bytes.now ≤ text_room) }
+    ensures added { Adds (RateLine bytes.now) text.old.bytes text.new.bytes }
 {
     match rates::rate_question(bytes, memories) {
-        Err(refusal) => number_line(alloc, u64::from(refusal)),
-        Ok(sizing) => answer_line(alloc, sizing.delay, sizing.total, memories),
+        Err(refusal) => add_line(text, u64::from(refusal), &[], &[]),
+        Ok(sizing) => add_line(text, 0, &[sizing.delay, sizing.total], memories),
     }
 }
 
-// Both answers to a job of these sizes.
-fn both(alloc: Global, bytes: &[u8], sizes: Sizes) -> Result<String, AllocError>
-    requires { Takes (Ok sizes) bytes.now }
-    ensures { IfOk result (λ text. BothAnswers bytes.now (string_bytes text)) }
+// Both answers to a job of these sizes, into an empty text. Plan and memories stand in fixed rooms too.
+fn add_both(text: &mut Text, bytes: &[u8], sizes: Sizes)
+    requires { Takes (Ok sizes) bytes.now × (text.old.bytes ≡ []) }
+    ensures { BothAnswers bytes.now text.new.bytes }
 {
     let links = sizes.nodes - 1;
-    let mut plan = vec![in alloc; 0u64; sizes.plan_length]?;
-    let mut peaks = vec![in alloc; 0u64; links]?;
-    let memory = memory_lines(alloc, bytes, &mut plan, &mut peaks)?;
-    let mut memories = vec![in alloc; 0u64; links]?;
-    let rate = rate_line(alloc, bytes, &mut memories)?;
-    format!(in alloc; "{memory}{rate}")
+    let mut plan = job::room::<MOST_PLANNED>();
+    let mut peaks = job::room::<{ Job::MOST_NODES }>();
+    add_memory_lines(
+        text,
+        bytes,
+        &mut plan[..sizes.plan_length],
+        &mut peaks[..links],
+    );
+    let mut memories = job::room::<{ Job::MOST_NODES }>();
+    add_rate_line(text, bytes, &mut memories[..links]);
 }
 
 // The sizes of a job that both questions are asked of.
@@ -151,13 +166,14 @@ fn taken(bytes: &[u8]) -> Result<Sizes, Refusal>
     Ok(sizes)
 }
 
-// All that is printed for these bytes.
-fn answer(alloc: Global, bytes: &[u8]) -> Result<String, AllocError>
-    ensures { IfOk result (λ text. Printed bytes.now (string_bytes text)) }
+// All that is printed for these bytes, into an empty text: one that was returned would be copied.
+fn answer(text: &mut Text, bytes: &[u8])
+    requires { text.old.bytes ≡ [] }
+    ensures { Printed bytes.now text.new.bytes }
 {
     match taken(bytes) {
-        Err(refusal) => number_line(alloc, u64::from(refusal)),
-        Ok(sizes) => both(alloc, bytes, sizes),
+        Err(refusal) => add_line(text, u64::from(refusal), &[], &[]),
+        Ok(sizes) => add_both(text, bytes, sizes),
     }
 }
 
@@ -180,11 +196,12 @@ fn read_job<R: Read>(input: &mut R, buf: &mut [u8]) -> io::Result<usize>
 }
 
 // Writes all that is printed for these bytes.
-fn show<W: Write>(alloc: Global, output: &mut W, bytes: &[u8]) -> io::Result<()>
+fn show<W: Write>(output: &mut W, bytes: &[u8]) -> io::Result<()>
     ensures { OnOk result ((text : List ℕ) × Printed bytes.now text × Appends (W.contents output.old) (W.contents output.new) text) }
 {
-    let text = answer(alloc, bytes)?;
-    output.write_all(text.as_bytes())
+    let mut text = Text::new();
+    answer(&mut text, bytes);
+    output.write_all(text.as_str().as_bytes())
 }
 
 fn main(rt: HostRuntime) {
@@ -192,7 +209,7 @@ fn main(rt: HostRuntime) {
     let mut buf = [0u8; MOST_BYTES + 1];
     let told = match read_job(&mut rt.stdin(), &mut buf) {
         Err(_) => eprintln!(rt; "relay: standard input could not be read"),
-        Ok(count) => match show(rt.alloc(), &mut rt.stdout(), &buf[..count]) {
+        Ok(count) => match show(&mut rt.stdout(), &buf[..count]) {
             Err(_) => eprintln!(rt; "relay: the answer could not be written"),
             Ok(()) => Ok(()),
         },

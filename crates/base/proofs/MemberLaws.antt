@@ -1,24 +1,23 @@
 -- Laws of the list of a set's members: it is empty or the lowest member and the rest's list; what is folded over it.
-use mathlib.Core.Bool.{Bool, true, false, not, ◌&&◌}
-use mathlib.Core.List.{List, [], ◌∷◌, ◌++◌}
-use mathlib.Core.Logic.{◌⊎◌, inl, inr, ⊎_elim}
-use mathlib.Core.Path.{◌≡◌, refl, ap, subst, ◌∙◌}
+use mathlib.Core.Bool.{Bool, true, false}
+use mathlib.Core.List.{List, [], ◌∷◌, ◌++◌, append-nil, append_assoc}
+use mathlib.Core.Logic.{⊎_elim}
+use mathlib.Core.Path.{◌≡◌, refl, ap, subst, sym, ◌∙◌}
 use Prim.Native.Nat.{ℕ, zero, suc, ◌+◌, ◌-◌, ◌^◌, ◌≤◌, ◌<◌}
 use native.Mathlib.Nat.{add-suc}
 use native.Mathlib.Omega.{arith}
-use lib.Bits.{bit_and}
-use lib.Dec.{eqb}
-use borrow.Author.Tests.{ne_eqb, eq-eqb}
+use lib.Bits.{bit_and, and_le_r}
+use borrow.Author.Tests.{le-leb, lt-leb}
 use Rattle.std.specs.List as list
 use Rattle.std.specs.List.{All}
 use Rattle.std.proofs.lemmas.List.Elements.{All-nil, All-push, All-head, All-weaker}
 use Rattle.std.proofs.lemmas.List.Sums.{fold_push}
 use Rattle.base.specs.Range.{first, fold}
 use Rattle.base.specs.Set.{has, members, word_bits}
-use Rattle.base.proofs.BoolLaws.{true_or_false, lt_or_le, and_true, and_no_right}
-use Rattle.base.proofs.RangeLaws.{fold_skip, fold-take}
-use Rattle.base.proofs.SetLaws.{has-none, first_in, first_lt, first-first, has_cleared}
-use Rattle.base.proofs.WalkLaws.{Without}
+use Rattle.base.proofs.BoolLaws.{true_or_false, and_true, and_no_right}
+use Rattle.base.proofs.RangeLaws.{fold_skip}
+use Rattle.base.proofs.SetLaws.{has-none, has_cleared}
+use Rattle.base.proofs.WalkLaws.{Without, Walked, walk_start, walk_next}
 
 -- the numbers below n that pass, in a list
 passing : (ℕ → Bool) → ℕ → List ℕ
@@ -43,48 +42,40 @@ passing_in p (suc n) =
     (λ (e : p n ≡ false). rw e up)
     (true_or_false (p n))
 
-module _ (p q : ℕ → Bool) (x : ℕ) (here : p x ≡ true) (before : (i : ℕ) → i < x → p i ≡ false) (rest : (i : ℕ) → q i ≡ (p i && not (eqb i x))) where
-  none_to : (n : ℕ) → n ≤ suc x → passing q n ≡ []
+-- Along a walk that lists the members it meets: what it has met and the members that are left are all of them.
+module _ (s rest : ℕ) (met : List ℕ) (w : Walked (λ l i. l ++ (i ∷ [])) [] s rest met) where
+  along : (d : ℕ) → passing (has s) (w.place + d) ≡ met ++ passing (has rest) (w.place + d)
   unfolding passing fold
-  none_to n h = fold_skip _ [] q 0 n (omega arith) (λ j a b. rest j ∙ gone j b)
-    where
-      gone : (j : ℕ) → j < n → (p j && not (eqb j x)) ≡ false
-      gone j b = either (lt_or_le j x)
-        where
-          either : (j < x) ⊎ (x ≤ j) → (p j && not (eqb j x)) ≡ false
-          either (inl l) = rw (before j l) refl
-          either (inr l) = and_no_right (p j) (ap not (eq-eqb j x (omega arith)))
-
-  -- from the first that passes on, the list is it and then the others
-  first_then : (d : ℕ) → passing p (suc x + d) ≡ x ∷ passing q (suc x + d)
-  unfolding passing fold
-  first_then zero =
-      let up : passing p x ≡ [] = fold_skip _ [] p 0 x (omega arith) (λ j a b. before j b) in
-      let on : passing p (suc x) ≡ x ∷ [] = fold-take (λ l i. l ++ (i ∷ [])) [] p x here ∙ rw up refl in
-      let e : suc x + 0 ≡ suc x = omega arith in
-      rw (e, none_to (suc x) (omega arith)) on
-  first_then (suc d) =
-      let same : q (suc x + d) ≡ p (suc x + d) = rest (suc x + d) ∙ rw (ne_eqb (suc x + d) x (omega arith), and_true) refl in
+  along zero =
+      let e : w.place + 0 ≡ w.place = omega arith in
+      let none : passing (has rest) w.place ≡ [] =
+      fold_skip _ [] (has rest) 0 w.place (omega arith) (λ j a b. w.left j ∙ and_no_right (has s j) (lt-leb w.place j b)) in
+      rw (e, none, append-nil) (sym w.so_far)
+  along (suc d) =
+      let n = w.place + d in
+      let same : has rest n ≡ has s n = w.left n ∙ rw (le-leb w.place n (omega arith), and_true) refl in
       ⊎_elim
-      (λ (e : p (suc x + d) ≡ true).
-      rw (add-suc (suc x) d, e, same ∙ e, first_then d) refl)
-      (λ (e : p (suc x + d) ≡ false). rw (add-suc (suc x) d, e, same ∙ e) (first_then d))
-      (true_or_false (p (suc x + d)))
+      (λ (e : has s n ≡ true). rw (add-suc w.place d, e, same ∙ e, along d) (append_assoc met (passing (has rest) n) (n ∷ [])))
+      (λ (e : has s n ≡ false). rw (add-suc w.place d, e, same ∙ e) (along d))
+      (true_or_false (has s n))
+
+  listed : members s ≡ met ++ members rest
+  unfolding passing
+  listed =
+      let e : w.place + (word_bits - w.place) ≡ word_bits = omega (arith, w.within) in
+      rw e at (along (word_bits - w.place))
 
 pub members_none : members 0 ≡ []
 unfolding fold
 members_none = fold_skip (λ l i. l ++ (i ∷ [])) [] (has 0) 0 word_bits (omega arith) (λ j a b. has-none j)
 
-pub members_then : (s t : ℕ) → s < 2 ^ 64 → 0 < s → Without s t → members s ≡ first (has s) word_bits ∷ members t
-unfolding passing fold
-members_then s t h some_in rest =
-    let x = first (has s) word_bits in
-    let e : suc x + (word_bits - suc x) ≡ word_bits = omega (arith, first_lt s h some_in) in
-    rw e at
-    (first_then (has s) (has t) x (first_in s h some_in) (first-first s h some_in) rest (word_bits - suc x))
+-- the lowest, and then those of the set without it
+pub members_then : (s t : ℕ) → s < 2 ^ 64 → 0 < s → t ≤ s - 1 → Without s t → members s ≡ first (has s) word_bits ∷ members t
+members_then s t h some_in le rest =
+    listed s t (first (has s) word_bits ∷ []) (walk_next _ [] s s t [] (walk_start _ [] s h) some_in le rest)
 
 pub members_next : (s : ℕ) → s < 2 ^ 64 → 0 < s → members s ≡ first (has s) word_bits ∷ members (bit_and s (s - 1))
-members_next s h some_in = members_then s (bit_and s (s - 1)) h some_in (has_cleared s h some_in)
+members_next s h some_in = members_then s (bit_and s (s - 1)) h some_in (and_le_r s _) (has_cleared s h some_in)
 
 -- what is folded over the members is folded over the numbers that are in the set
 pub fold_members : {A : Type 0} (step : A → ℕ → A) (z : A) (s : ℕ) → list.fold step z (members s) ≡ fold step z (has s) word_bits

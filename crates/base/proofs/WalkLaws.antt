@@ -16,7 +16,7 @@ use Rattle.base.proofs.SetLaws.{has-none, first_in, first_lt, first-first}
 abbrev pub Left : ℕ → ℕ → ℕ → Type 0
 Left s rest place = (j : ℕ) → has rest j ≡ (has s j && leb place j)
 
--- next is rest without its lowest member
+-- what `without_lowest` says: next is rest without its lowest member
 abbrev pub Without : ℕ → ℕ → Type 0
 Without rest next = (j : ℕ) → has next j ≡ (has rest j && not (eqb j (first (has rest) word_bits)))
 

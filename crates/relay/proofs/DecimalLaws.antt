@@ -1,4 +1,4 @@
--- Laws of numbers in decimal: the rule without a limit, that std writes the same, and what the digits say.
+-- Laws of numbers in decimal: the rule without a limit, that the library writes the same, and what the digits say.
 use mathlib.Core.Bool.{cond, true, false}
 use mathlib.Core.List.{List, [], ◌∷◌, ◌++◌}
 use mathlib.Core.Path.{◌≡◌, refl, ◌∙◌}
@@ -41,7 +41,7 @@ digits-small n h = digits_rule n ∙ rw (lt-ltb n 10 h) refl
 pub digits_more : (n : ℕ) → 9 < n → digits n ≡ digits (n / 10) ++ (digit (n % 10) ∷ [])
 digits_more n h = digits_rule n ∙ rw (le-ltb n 10 (omega arith)) refl
 
--- what `{}` writes of a number of 64 bits
+-- what the library writes of a number of 64 bits
 pub digits_printed : (n : ℕ) → Fits w64 n → decimal n ≡ digits n
 digits_printed n h =
     decimal_by_steps

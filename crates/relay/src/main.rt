@@ -166,11 +166,11 @@ fn taken(bytes: &[u8]) -> Result<Sizes, Refusal>
     Ok(sizes)
 }
 
-// All that is printed for these bytes, into an empty text: one that was returned would be copied.
+// All that is printed for these bytes, in place of what the text had: one that was returned would be copied.
 fn answer(text: &mut Text, bytes: &[u8])
-    requires { text.old.bytes ≡ [] }
     ensures { Printed bytes.now text.new.bytes }
 {
+    text.clear();
     match taken(bytes) {
         Err(refusal) => add_line(text, u64::from(refusal), &[], &[]),
         Ok(sizes) => add_both(text, bytes, sizes),

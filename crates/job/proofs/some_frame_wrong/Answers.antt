@@ -16,4 +16,5 @@ loop-m-init c = let none : min 0 c.args.frames ≡ 0 = omega arith in rw none re
 
 pub returns-then-frame_wrong_before : goal.returns-then-frame_wrong_before
 returns-then-frame_wrong_before c =
-    sym (some_later _ c.min.result _ (omega (arith, c.min.ensures, c.requires.1.1)) (sym c.frame_wrong_before.ensures ∙ c.if-frame_wrong_before.true))
+    let here = sym c.frame_wrong_before.ensures ∙ c.if-frame_wrong_before.true in
+    sym (some_later _ c.min.result _ (omega (arith, c.min.ensures, c.requires.1.1)) here)

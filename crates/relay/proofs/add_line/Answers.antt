@@ -1,5 +1,4 @@
 -- The number, the two rows and the line's end, one after the other (line_text).
-use mathlib.Core.Path.{◌∙◌}
 use Rattle.relay.proofs.TextLaws.{line_text}
 use Rattle.relay.proofs.add_line.Goals as goal
 

@@ -1,6 +1,6 @@
 -- Before turn i the lines of nodes 1 to i are added, each within its room.
 use Rattle.std.proofs.Common.{append-nil}
-use mathlib.Core.Path.{◌≡◌, refl}
+use mathlib.Core.Path.{refl}
 use Prim.Native.Nat.{◌+◌, ◌≤◌}
 use native.Mathlib.Omega.{arith}
 use lib.ListN.{length}
@@ -24,15 +24,16 @@ loop-i-init c = record { added = rw append-nil refl; long = omega arith }
 pub add_line-requires : goal.add_line-requires
 add_line-requires c =
     let l = c.loop-i in
-    let room = line-fits (length c.args.text.now.bytes) (length l.text.bytes) l.i (length c.args.peaks.now) (node_room c.args.bytes.now) _ l.invariant.long c.requires (omega arith) in
+    let room =
+    line-fits _ (length l.text.bytes) l.i (length c.args.peaks.now) (node_room c.args.bytes.now) _ l.invariant.long c.requires (omega arith) in
     omega (arith, room, row_fits (goal.at.add_line-requires c).After-row_of-row)
 
 pub loop-i-preserved : goal.loop-i-preserved
 loop-i-preserved c =
     let l = c.loop-i in
     let fits = row_fits (goal.at.loop-i-preserved c).After-row_of-row in
+    let lines = node_line c.args.bytes.now c.args.plan.now c.args.peaks.now in
     record {
-      added = line_added (node_line c.args.bytes.now c.args.plan.now c.args.peaks.now) l.i _ _ _ _ l.invariant.added c.add_line.ensures.added
-          (rw c.row_of-row.ensures refl);
+      added = line_added lines l.i _ _ _ _ l.invariant.added c.add_line.ensures.added (rw c.row_of-row.ensures refl);
       long = line_next _ _ _ l.i (node_room c.args.bytes.now) l.invariant.long (omega (arith, c.add_line.ensures.long, fits));
     }

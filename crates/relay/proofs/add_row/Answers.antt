@@ -1,7 +1,7 @@
 -- A turn adds a space and the digits of the next number (row_added), in the room of one number more.
 use Rattle.std.proofs.Common.{rules, append-nil}
 use native.Mathlib.Omega.{arith}
-use mathlib.Core.Path.{refl, sym, ◌∙◌}
+use mathlib.Core.Path.{refl, ◌∙◌}
 use Rattle.relay.specs.Text.{spaced}
 use Rattle.relay.proofs.TextLaws.{row_added}
 use Rattle.relay.proofs.add_row.Goals as goal

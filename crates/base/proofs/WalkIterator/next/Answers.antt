@@ -11,9 +11,11 @@ returns-then-self-eq0-clause-steps c = let e = ap members c.if-self-eq0.true ∙
 
 pub returns-clause-steps : goal.returns-clause-steps
 returns-clause-steps c =
-    rw (c.lowest-next.ensures) (members_then c.args.self.now.left c.without_lowest-self.result (omega arith) (omega arith) c.without_lowest-self.ensures.0)
+    let w = c.without_lowest-self in
+    rw (c.lowest-next.ensures) (members_then c.args.self.now.left w.result (omega arith) (omega arith) w.ensures.1 w.ensures.0)
 
 pub returns-clause-goes : goal.returns-clause-goes
 returns-clause-goes c =
-    let e = members_then c.args.self.now.left c.without_lowest-self.result (omega arith) (omega arith) c.without_lowest-self.ensures.0 in
+    let w = c.without_lowest-self in
+    let e = members_then c.args.self.now.left w.result (omega arith) (omega arith) w.ensures.1 w.ensures.0 in
     record { on = λ _. (tt, tt, omega (arith, ap length e)); keeps = tt; rests = λ _. tt }

@@ -11,12 +11,12 @@ use Rattle.job.proofs.Checked.sums.Goals as goal
 
 pub write_sums-requires : goal.write_sums-requires
 write_sums-requires c =
-    let count = c.args.self.job.now.frames + 1 in
-    (c.args.self.accepted.none, length-take-le count c.args.room.now (omega (arith, c.requires)) ∙ omega (arith, c.args.self.accepted.frames))
+    let long = length-take-le (c.args.self.job.now.frames + 1) c.args.room.now (omega (arith, c.requires)) in
+    (c.args.self.accepted.none, long ∙ omega (arith, c.args.self.accepted.frames))
 
 pub returns : goal.returns
 returns c =
     let w = c.write_sums in
-    let s = c.args.self.bytes.now in
-    let long : length w.new.out ≡ c.args.self.job.now.frames + 1 = ap length w.ensures ∙ length-tab (T (job_of s)) _ ∙ omega (arith, c.args.self.accepted.frames) in
+    let all = ap length w.ensures ∙ length-tab (T (job_of c.args.self.bytes.now)) _ in
+    let long : length w.new.out ≡ c.args.self.job.now.frames + 1 = all ∙ omega (arith, c.args.self.accepted.frames) in
     take_at w.new.out _ (c.args.self.job.now.frames + 1) long ∙ w.ensures

@@ -7,17 +7,18 @@ use Prim.Native.Nat.{ℕ, zero, suc, ◌+◌, ◌-◌, ◌^◌, ◌≤◌, ◌<�
 use native.Mathlib.Nat.{add-suc}
 use native.Mathlib.Omega.{arith}
 use lib.Bits.{bit_and, and_le_r}
+use lib.ListN.{length}
 use borrow.Author.Tests.{le-leb, lt-leb}
 use Rattle.std.specs.List as list
 use Rattle.std.specs.List.{All}
-use Rattle.std.proofs.lemmas.List.Elements.{All-nil, All-push, All-head, All-weaker}
+use Rattle.std.proofs.lemmas.List.Elements.{All-nil, All-push, All-head, All-tail, All-weaker}
 use Rattle.std.proofs.lemmas.List.Sums.{fold_push}
 use Rattle.base.specs.Range.{first, fold}
 use Rattle.base.specs.Set.{has, members, word_bits}
-use Rattle.base.proofs.BoolLaws.{true_or_false, and_true, and_no_right}
+use Rattle.base.proofs.BoolLaws.{true_or_false, lt_or_le, and_true, and_no_right}
 use Rattle.base.proofs.RangeLaws.{fold_skip}
 use Rattle.base.proofs.SetLaws.{has-none, has_cleared}
-use Rattle.base.proofs.WalkLaws.{Without, Walked, walk_start, walk_next}
+use Rattle.base.proofs.WalkLaws.{Without, Walked, walk_start, walk_next, Seen, seen_start, seen_next, seen_all}
 
 -- the numbers below n that pass, in a list
 passing : (ℕ → Bool) → ℕ → List ℕ
@@ -92,3 +93,34 @@ pub next_in : (s i : ℕ) (rest : List ℕ) → members s ≡ i ∷ rest → (i 
 next_in s i rest e =
     let P : ℕ → Type 0 = λ i. (i < word_bits) × (has s i ≡ true) in
     All-head P i rest (subst (All P) e (members_in s))
+
+-- What holds of all members is seen of each along a walk over them.
+some_left : (s d : ℕ) → length (members s) ≡ suc d → 0 < s
+some_left s d e =
+    ⊎_elim
+    (λ (h : 0 < s). h)
+    (λ (h : s ≤ 0).
+    let z : s ≡ 0 = omega arith in
+    absurd (omega (arith, sym e ∙ ap (λ n. length (members n)) z ∙ ap length members_none)))
+    (lt_or_le 0 s)
+
+none_left : (s : ℕ) → s < 2 ^ 64 → length (members s) ≡ 0 → s ≡ 0
+none_left s h e =
+    ⊎_elim
+    (λ (l : 0 < s). absurd (omega (arith, ap length (members_next s h l), e)))
+    (λ (l : s ≤ 0). omega arith)
+    (lt_or_le 0 s)
+
+module _ (P : ℕ → Type 0) (s : ℕ) where
+  seen_rest : (d rest : ℕ) → length (members rest) ≡ d → All P (members rest) → Seen P s rest → Seen P s 0
+  seen_rest zero rest e all w = rw (none_left rest w.fits e) at w
+  seen_rest (suc d) rest e all w =
+      let h = some_left rest d e in
+      let t = bit_and rest (rest - 1) in
+      let next = members_next rest w.fits h in
+      let here : All P (first (has rest) word_bits ∷ members t) = rw next at all in
+      seen_rest d t (omega (arith, ap length next, e)) (All-tail P _ _ here)
+      (seen_next P s rest t w h (and_le_r rest _) (has_cleared rest w.fits h) (All-head P _ _ here))
+
+  pub seen_listed : s < 2 ^ 64 → All P (members s) → (i : ℕ) → has s i ≡ true → P i
+  seen_listed h all = seen_all P s (seen_rest (length (members s)) s refl all (seen_start P s h))

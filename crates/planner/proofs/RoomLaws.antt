@@ -1,18 +1,13 @@
 -- A leaf's own room, D + b. Its upper curve never passes that, so a leaf whose lower curve does so starves; and where no leaf's lower curve
 -- does so, lower is nowhere above upper.
 use mathlib.Core.Bool.{Bool, true, false}
-use mathlib.Core.List.{List, [], ◌∷◌, ◌++◌}
-use mathlib.Core.Logic.{◌≢◌, ⊎_elim}
+use mathlib.Core.List.{List}
+use mathlib.Core.Logic.{◌≢◌}
 use mathlib.Core.Path.{◌≡◌, refl, ap, ◌∙◌}
 use Prim.Native.Nat.{ℕ, zero, suc, ◌+◌, ◌-◌, ◌≤◌, ◌<◌}
 use native.Mathlib.Omega.{arith}
 use lib.ListN.{get_or}
-use Rattle.std.specs.List.{All, Contains}
-use Rattle.std.proofs.lemmas.List.Elements.{All-contains, Contains-push, Contains-append_left}
-use Rattle.base.specs.Range.{fold}
-use Rattle.base.specs.Set.{has, members, word_bits}
 use Rattle.base.specs.Table.{tab}
-use Rattle.base.proofs.BoolLaws.{true_or_false, last_or_below}
 use Rattle.base.proofs.TableLaws.{get_or-tab}
 use Rattle.job.specs.Tree.{Tree, TreeWithin, leaf}
 use Rattle.job.proofs.TreeLaws.{link_in}
@@ -96,22 +91,3 @@ module _ (t : Tree) (within : TreeWithin t) (T : ℕ → ℕ) where
           upper_is t within T top (w - 1) i k (linked i e),
           feasible_by_room (w - 1) (λ i e k r. fine i e k (omega arith)) i (linked i e) k (omega arith),
         )
-
--- ---- a walk over the leaves
-
--- the members of a set are in the list of its members
-passing_listed : (p : ℕ → Bool) (n i : ℕ) → i < n → p i ≡ true → Contains (fold (λ l k. l ++ (k ∷ [])) [] p n) i
-unfolding fold
-passing_listed p zero i h e = absurd (omega arith)
-passing_listed p (suc n) i h e =
-    ⊎_elim
-    (λ (q : i ≡ n). rw (← q, e) (Contains-push _ i))
-    (λ (l : i < n). ⊎_elim
-    (λ (f : p n ≡ true). rw f (Contains-append_left _ (n ∷ []) i (passing_listed p n i l e)))
-    (λ (f : p n ≡ false). rw f (passing_listed p n i l e))
-    (true_or_false (p n)))
-    (last_or_below i n h)
-
--- what holds of all members holds of each
-pub all_members : (P : ℕ → Type 0) (s : ℕ) → All P (members s) → (i : ℕ) → i < word_bits → has s i ≡ true → P i
-all_members P s all i h e = All-contains P (members s) i all (passing_listed (has s) word_bits i h e)

@@ -19,7 +19,8 @@ use Rattle.smoothing.specs.Tree.{Link}
 use Rattle.curves.specs.Curves.{lower_curve}
 use Rattle.job.specs.Sums.{sums_in, last_in}
 use Rattle.job.proofs.SumsLaws.{film_of, sum_fits}
-use Rattle.planner.proofs.RoomLaws.{InRoom, in_room_by_row, starved_by_row, root_leaf_in_room, all_fed, all_members}
+use Rattle.planner.proofs.RoomLaws.{InRoom, in_room_by_row, starved_by_row, root_leaf_in_room, all_fed}
+use Rattle.base.proofs.MemberLaws.{seen_listed}
 use native.Mathlib.Omega.{arith}
 use Rattle.planner.proofs.starves.Goals as goal
 use Rattle.planner.proofs.starves.Goals.{In-Some, After-keep_row}
@@ -152,9 +153,7 @@ returns-in-None-clause-fed c q =
     let P : ℕ → Type 0 = InRoom (tree_in job) (sums_in sums) (length c.args.lowers.now) in
     let all : All P (members c.leaves-leaves.result) = c.search.invariant.seen (rw c.in-None.ensures.steps.0 (All-nil P)) in
     all_fed (tree_in job) within.tree (sums_in sums) (last_in sums) (film_of sums within.film) (length c.args.lowers.now)
-    (λ i e. all_members P c.leaves-leaves.result all i
-    (omega (arith, link_in job.nodes i (leaf-link (tree_in job) within.tree i e), within.tree.nodes_to))
-    (c.leaves-leaves.ensures i ∙ e))
+    (λ i e. seen_listed P c.leaves-leaves.result (omega arith) all i (c.leaves-leaves.ensures i ∙ e))
 
 pub returns-then-lower-upper-clause-starving : goal.returns-then-lower-upper-clause-starving
 returns-then-lower-upper-clause-starving c q =
